@@ -1,0 +1,2 @@
+// Tokens, and the two token sources: a table of rows and a packed file.
+pub mod token;
