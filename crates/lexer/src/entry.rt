@@ -4,7 +4,7 @@ ghost use Rattle.lexer.specs.Entries.{ruleNumber, readAs};
 use crate::token::Token;
 
 // The rule that a bad entry breaks. Of several, the first in this order.
-#[derive(Clone, Copy, Debug)]
+#[derive(Clone, Copy, Debug, PartialEq, Eq)]
 pub enum Broken {
     // a record of fewer than fourteen bytes
     CutShort,
@@ -34,7 +34,7 @@ impl Broken {
 }
 
 // Where a list of tokens ends, by the number of the entry there.
-#[derive(Clone, Copy, Debug)]
+#[derive(Clone, Copy, Debug, PartialEq, Eq)]
 pub enum Ending {
     // before an Eof
     AtEof(usize),

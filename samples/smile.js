@@ -1,0 +1,1 @@
+import delta from "smile"; export { delta };
