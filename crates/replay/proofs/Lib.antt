@@ -1,0 +1,3 @@
+mod Shorter
+mod Digits
+mod Listing

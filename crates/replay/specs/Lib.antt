@@ -1,0 +1,5 @@
+pub mod Lined
+pub mod Hex
+pub mod Rules
+pub mod Shown
+pub mod Scores
