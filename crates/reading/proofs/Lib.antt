@@ -1,0 +1,14 @@
+mod Clean
+mod OfKinds
+mod Lists
+mod Specifiers
+mod Forms
+mod Attrs
+mod OfExports
+mod Fronts
+mod Whole
+mod OfWorked
+mod Local
+mod OfReaders
+mod OfLaws
+mod Takes

@@ -1,0 +1,17 @@
+pub mod Namings
+pub mod Ahead
+pub mod Settings
+pub mod Hosts
+pub mod Readings
+pub mod Steps
+pub mod Braces
+pub mod Attributes
+pub mod Imports
+pub mod Exports
+pub mod Items
+pub mod Grammar
+pub mod Main
+pub mod Trials
+pub mod Worked
+pub mod Laws
+pub mod Limits
