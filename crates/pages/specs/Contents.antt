@@ -1,5 +1,6 @@
 -- What a page says: by its kind, the fields that this kind uses, and no others.
-use mathlib.Core.List.{List}
+use mathlib.Core.Path.{_≡_}
+use mathlib.Core.List.{List, []}
 use Rattle.std.specs.declared.option.Option.{Option}
 use Rattle.lexer.specs.declared.token.Span.{Span}
 use Rattle.pages.specs.declared.fault.Fault.{Fault}
@@ -47,3 +48,10 @@ content p = contentBy (p .kind) p
 -- the faults on a page
 abbrev pub faultsOn : Page → List Fault
 faultsOn p = items (p .faults)
+
+-- a page whose tables are empty
+pub record Empty (p : Page) : Type 0 where
+  pub specifiers : items (p .specifiers) ≡ []
+  pub names : items (p .names) ≡ []
+  pub attributes : items (p .attributes) ≡ []
+  pub faults : items (p .faults) ≡ []

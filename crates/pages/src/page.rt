@@ -1,12 +1,16 @@
 // A page: one item of a module.
 ghost use mathlib.Core.Path.{_≡_};
+ghost use Rattle.pages.specs.Contents.{content, blank as blankContent, Empty};
 ghost use Rattle.pages.specs.Numbers.{pageNumber, phaseNumber, defaultNumber};
 use crate::fault::Fault;
+use crate::fault::FaultKind;
 use crate::rows::Attribute;
+use crate::rows::Binding;
 use crate::rows::Name;
 use crate::rows::Request;
 use crate::rows::Specifier;
 use crate::table::Table;
+use lexer::token::Part;
 use lexer::token::Span;
 
 // The kinds of pages, each with the fields that it uses; whoever reads a page ignores all others. Every kind but
@@ -97,4 +101,30 @@ pub struct Page {
     pub names: Table<Name, 128>,
     pub attributes: Table<Attribute, 32>,
     pub faults: Table<Fault, 32>,
+}
+
+impl Page {
+    // A page on which nothing was read.
+    pub fn blank() -> Page
+        ensures says { λ r. ⌜ content r ≡ blankContent ⌝ }
+        ensures empty { λ r. ⌜ Empty r ⌝ }
+    {
+        let span = Span { start: 0, end: 0 };
+        let text = Part { place: 0, len: 0 };
+        let name = Name { text, span, string: false };
+        Page {
+            kind: PageKind::Blank,
+            phase: Phase::Evaluation,
+            source: Request { text, span, lone: false },
+            span,
+            body: span,
+            keyword: span,
+            exported: None,
+            default: DefaultName::Absent,
+            specifiers: Table::new(Specifier { span, binding: Binding::Named, name, alias: name }),
+            names: Table::new(name),
+            attributes: Table::new(Attribute { key: name, value: name }),
+            faults: Table::new(Fault::of_record(FaultKind::BlankPage)),
+        }
+    }
 }

@@ -46,15 +46,6 @@ impl<T: Copy, const N: usize> Table<T, N> {
         Ok(())
     }
 
-    // For a caller that knows of the room.
-    pub fn put(&mut self, row: T)
-        requires { ⌜ length (items (now self)) < N ⌝ }
-        ensures { λ _. ⌜ items (now (self .exit)) ≡ items (now (self .entry)) ++ row ∷ [] ⌝ }
-    {
-        self.rows[self.count] = row;
-        self.count += 1;
-    }
-
     // Lets go of the rows from `len` on.
     pub fn truncate(&mut self, len: usize)
         ensures { λ _. ⌜ items (now (self .exit)) ≡ take len (items (now (self .entry))) ⌝ }

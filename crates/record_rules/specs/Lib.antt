@@ -1,0 +1,5 @@
+pub mod Rows
+pub mod Filing
+pub mod Closing
+pub mod Runs
+pub mod Ecma
