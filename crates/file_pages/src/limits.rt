@@ -23,7 +23,7 @@ pub fn show_limits(rt: &LibcRuntime) -> Result<(), AnyError> {
         show_limit(rt, "requests", Rows::Requests, count)?;
         show_limit(rt, "defaults", Rows::Defaults, count)?;
         show_limit(rt, "names of a source with a lone surrogate", Rows::Names, count)?;
-        show_limit(rt, "exports, two to a page", Rows::Exports, count)?;
+        show_limit(rt, "exports, three to a page", Rows::Exports, count)?;
     }
     Ok(())
 }
@@ -32,13 +32,11 @@ pub fn show_limits(rt: &LibcRuntime) -> Result<(), AnyError> {
 fn show_limit(rt: &LibcRuntime, what: &str, rows: Rows, count: u32) -> Result<(), AnyError> {
     let mut builder = ModuleRecord::open();
     let mut refused = 0u32;
-    let mut left = count;
-    while left > 0 {
-        let page = next_page(rows, left);
+    for i in 0..pages_for(rows, count) {
+        let page = next_page(rows, count.saturating_sub(i.saturating_mul(128)));
         if let Err(_) = builder.file(b"ab", &page) {
             refused = refused.saturating_add(1);
         }
-        left = left.saturating_sub(per_page(rows));
     }
     let imports = builder.imports().len();
     let requests = builder.requests().len();
@@ -48,16 +46,17 @@ fn show_limit(rt: &LibcRuntime, what: &str, rows: Rows, count: u32) -> Result<()
     Ok(())
 }
 
-// How many rows a page takes.
-fn per_page(rows: Rows) -> u32 {
+// How many pages have so many rows.
+fn pages_for(rows: Rows, count: u32) -> u32 {
     match rows {
-        Rows::Imports | Rows::Names => 128,
-        Rows::Requests | Rows::Defaults => 1,
-        Rows::Exports => 2,
+        Rows::Imports | Rows::Names => if count > 128 { 2 } else { 1 },
+        Rows::Requests | Rows::Defaults => count,
+        // those that fill a page
+        Rows::Exports => count / 3,
     }
 }
 
-// A page with as many rows as are left, as far as it takes them.
+// A page with as many rows as are left, as far as a page of its kind takes them.
 fn next_page(rows: Rows, left: u32) -> Page {
     let place = span(0, 0);
     match rows {
@@ -65,7 +64,7 @@ fn next_page(rows: Rows, left: u32) -> Page {
         Rows::Requests => import(place, Phase::Evaluation, module(0, 0), &[]),
         Rows::Defaults => default(place, place, place, DefaultName::Absent),
         Rows::Names => filled(export_from(place, lone_module(0, 0), &[]), left),
-        Rows::Exports => braces(place, &[plain(name(0, 1)), plain(name(1, 2))]),
+        Rows::Exports => filled(braces(place, &[]), 3),
     }
 }
 

@@ -205,7 +205,7 @@ impl fmt::Display for Handed<'_> as HandedDisplay {
                 let name = Quoted(name.text.of(self.0));
                 write!(f, "{name}")
             }
-            ExportImport::Default => write!(f, "the default"),
+            ExportImport::Default(_) => write!(f, "the default"),
             ExportImport::All => write!(f, "the namespace"),
             ExportImport::AllButDefault => write!(f, "all but the default"),
             ExportImport::Absent => write!(f, "nothing"),

@@ -31,7 +31,7 @@ fn handed_on(import: ImportRow) -> Option<ExportImport>
     match (import.import_name, import.phase) {
         (ImportName::Namespace, _) => None,
         (ImportName::Default(_), Phase::Source) => None,
-        (ImportName::Default(_), _) => Some(ExportImport::Default),
+        (ImportName::Default(span), _) => Some(ExportImport::Default(span)),
         (ImportName::Name(name), _) => Some(ExportImport::Name(name)),
     }
 }

@@ -1,8 +1,8 @@
 -- Attributes and the end of a clause.
-use mathlib.Core.Path.{_≡_, refl, sym, ap, subst, _∙_}
-use mathlib.Core.Bool.{Bool, true, false, not, _&&_, _||_, cond}
-use mathlib.Core.List.{List, [], _∷_, _++_}
-use mathlib.Core.Logic.{_⊎_, inl, inr}
+use mathlib.Core.Path.{_≡_, refl, ap, subst, _∙_}
+use mathlib.Core.Bool.{Bool, true, false, cond}
+use mathlib.Core.List.{List, [], _∷_}
+use mathlib.Core.Logic.{inl, inr}
 use Prim.Native.Nat.{ℕ, _≤_}
 use native.Mathlib.Omega.{arith}
 use lib.Dec.{eqb}
@@ -10,23 +10,22 @@ use lib.ListN.{length}
 use Rattle.std.specs.shelf.Text.{sameBytes}
 use Rattle.std.proofs.shelf.Tests.{and-parts, and-from, or-cases, or-left, or-right, or-from, eqb-true, eq-eqb}
 use Rattle.kinds.specs.declared.kind.Kind.{Kind}
-use Rattle.kinds.specs.declared.kind.Kind.the-variants.{Eof, Str, Undetermined, RCurly, Colon, Semicolon, With, Assert}
-use Rattle.kinds.specs.Numbers.{number, same}
+use Rattle.kinds.specs.declared.kind.Kind.the-variants.{Eof, Undetermined, RCurly, Semicolon, With, Assert}
+use Rattle.kinds.specs.Numbers.{number}
 use Rattle.kinds.specs.Classes.{isKeyword}
 use Rattle.lexer.specs.declared.token.Token.{Token}
-use Rattle.lexer.specs.Tokens.{partOf}
 use Rattle.pages.specs.declared.fault.Fault.{Fault}
 use Rattle.pages.specs.declared.fault.FaultKind.the-variants.{NoString}
 use Rattle.pages.specs.declared.rows.Attribute.{Attribute}
 use Rattle.reading.specs.Ahead.{next, rest, at, attributesFollow}
 use Rattle.reading.specs.Settings.{Setting}
-use Rattle.reading.specs.Grammar.{One, one, Sign, Word, S, Key, OneAttribute, attribute, Apart, apart-none, apart-more, Distinct, distinct-none, distinct-more, keys, Braces, Attributes, no-attributes, some-attributes, End, semicolon, at-eof, at-brace, at-line}
-use Rattle.reading.specs.Steps.{Out, got, Reader, ending}
+use Rattle.reading.specs.Grammar.{One, one, Sign, Word, Key, OneAttribute, attribute, Apart, apart-none, apart-more, Distinct, distinct-none, distinct-more, keys, Attributes, no-attributes, some-attributes, End, semicolon, at-eof, at-brace, at-line}
+use Rattle.reading.specs.Steps.{ending}
 use Rattle.reading.specs.Braces.{closes, braced}
 use Rattle.reading.specs.Attributes.{keyText, repeated, repeats, attributes}
 use Rattle.reading.specs.Attributes as reader
 use Rattle.reading.specs.Main.{Cleanly}
-use Rattle.reading.proofs.Clean.{Right, took, takes, bound-of, binds, tested, passes, fails, stopped, done, ends, added, adds, faulty, front-none, clash}
+use Rattle.reading.proofs.Clean.{took, takes, bound-of, binds, tested, passes, fails, stopped, done, ends, added, adds, faulty, front-none, clash}
 use Rattle.reading.proofs.OfKinds.{same-is, seen, not-same, name-is-not, one-as, one-is, word-right, with-is-keyword, assert-is-keyword, key-right, colon-right, close-right, str-right}
 use Rattle.reading.proofs.Lists.{Follow, braced-sound, braced-complete}
 

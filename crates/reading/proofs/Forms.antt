@@ -1,7 +1,7 @@
 -- The eight forms of an import.
-use mathlib.Core.Path.{_≡_, refl, sym, ap, subst, _∙_}
-use mathlib.Core.Bool.{Bool, true, false, not, _&&_, cond}
-use mathlib.Core.List.{List, [], _∷_, _++_}
+use mathlib.Core.Path.{_≡_, refl, ap, _∙_}
+use mathlib.Core.Bool.{Bool, true, false}
+use mathlib.Core.List.{List, []}
 use Prim.Native.Nat.{ℕ, _≤_, _-_}
 use native.Mathlib.Omega.{arith}
 use lib.Dec.{eqb}
@@ -21,8 +21,8 @@ use Rattle.pages.specs.declared.page.Phase.the-variants as phase
 use Rattle.reading.specs.Ahead.{next, at}
 use Rattle.reading.specs.Settings.{Setting}
 use Rattle.reading.specs.Readings.{Starred, Form, importRows}
-use Rattle.reading.specs.Grammar.{One, one, Sign, Word, B, S, ImportSpecifier, Braces, empty, full, StarAs, star-as, FromS, from-s, ImportForm, bare, default, default-star, default-braces, star, braces, defer-star, source-of}
-use Rattle.reading.specs.Steps.{Out, got, Reader, test, esc}
+use Rattle.reading.specs.Grammar.{one, Sign, Word, B, ImportSpecifier, Braces, empty, full, StarAs, star-as, FromS, from-s, ImportForm, bare, default, default-star, default-braces, star, braces, defer-star, source-of}
+use Rattle.reading.specs.Steps.{test, esc}
 use Rattle.reading.specs.Braces.{braced}
 use Rattle.reading.specs.Imports.{specifier, fromS, starAs, starFrom, bracesFrom, starred, listed, roomBy, viaStar, viaBraces, afterDefault, afterDefer, afterSourceName, afterSource, afterBinding, form}
 use Rattle.reading.specs.Main.{Cleanly}

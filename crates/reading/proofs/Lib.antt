@@ -12,3 +12,4 @@ mod Local
 mod OfReaders
 mod OfLaws
 mod Takes
+mod OfRuns

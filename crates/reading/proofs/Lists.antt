@@ -1,6 +1,6 @@
 -- The brace list, over any element that is read rightly where Comma or the close follows it.
-use mathlib.Core.Path.{_≡_, refl, sym, ap, subst, _∙_}
-use mathlib.Core.Bool.{Bool, true, false, not, _||_}
+use mathlib.Core.Path.{_≡_, refl, ap}
+use mathlib.Core.Bool.{Bool, true, false, not}
 use mathlib.Core.List.{List, [], _∷_}
 use mathlib.Core.Logic.{_⊎_, inl, inr}
 use Prim.Native.Nat.{ℕ, zero, suc, _≤_}
@@ -9,14 +9,14 @@ use lib.Dec.{eqb}
 use lib.ListN.{length}
 use Rattle.std.proofs.shelf.Tests.{or-parts, or-left, eq-eqb}
 use Rattle.kinds.specs.declared.kind.Kind.{Kind}
-use Rattle.kinds.specs.declared.kind.Kind.the-variants.{LCurly, Comma}
+use Rattle.kinds.specs.declared.kind.Kind.the-variants.{Comma}
 use Rattle.kinds.specs.Numbers.{number}
 use Rattle.lexer.specs.declared.token.Token.{Token}
 use Rattle.lexer.specs.declared.token.Span.{Span}
 use Rattle.pages.specs.declared.fault.FaultKind.the-variants.{Full}
 use Rattle.reading.specs.Ahead.{at}
-use Rattle.reading.specs.Grammar.{One, one, Sign, Elements, last, last-comma, more, Braces, empty, full}
-use Rattle.reading.specs.Steps.{Out, got, Reader, bind, test, word}
+use Rattle.reading.specs.Grammar.{Sign, Elements, last, last-comma, more, Braces, empty, full}
+use Rattle.reading.specs.Steps.{got, Reader, bind, test, word}
 use Rattle.reading.specs.Braces.{closes, separator, elements, inside, braced}
 use Rattle.reading.specs.Main.{Cleanly}
 use Rattle.reading.proofs.Clean.{Right, took, takes, bound-of, binds, tested, passes, fails, stopped, stopped-at, done, ends, clash}

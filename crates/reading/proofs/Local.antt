@@ -1,12 +1,11 @@
 -- Readers by what they take and look at: what is taken stands at the front, and the answer hangs on nothing behind
 -- the token come to.
 use mathlib.Core.Path.{_≡_, refl, sym, ap, subst, _∙_}
-use mathlib.Core.Bool.{Bool, true, false, cond}
+use mathlib.Core.Bool.{Bool, true, false}
 use mathlib.Core.List.{List, [], _∷_, _++_, append-assoc}
 use Prim.Native.Nat.{ℕ}
 use lib.Dec.{leb}
 use lib.ListN.{length}
-use Rattle.kinds.specs.declared.kind.Kind.{Kind}
 use Rattle.lexer.specs.declared.token.Token.{Token}
 use Rattle.lexer.specs.declared.token.Span.{Span}
 use Rattle.lexer.specs.Tokens.{ended}
@@ -17,8 +16,7 @@ use Rattle.pages.specs.Faults.{faultAt}
 use Rattle.reading.specs.Ahead.{next, rest, spanHere}
 use Rattle.reading.specs.Readings.{lastEnd}
 use Rattle.reading.specs.Steps.{Out, stop, got, Reader, stopAt, add, bind, test, token, crowded}
-use Rattle.reading.specs.Laws.{SameNext, both-end, both-go-on, Opened, opened, Why, full}
-use Rattle.reading.proofs.Clean.{clash}
+use Rattle.reading.specs.Laws.{Site, SameNext, both-end, both-go-on, Opened, opened, Why, full}
 
 -- the same next token
 pub self : (ts : List Token) → SameNext ts ts
@@ -47,13 +45,13 @@ end-joined e (x ∷ xs) ys = end-joined (x .span .end) xs ys
 pub opened-more : {front : List Token} {s : Span} (part : List Token) → Opened front s → Opened (front ++ part) s
 opened-more part (opened a b o h) = subst (λ x. Opened x (o .span)) (sym (append-assoc a (o ∷ b) part)) (opened a (b ++ part) o h)
 
-module _ (all : List Token) where
+module _ (site : Site) where
   -- after the tokens `front`, the reader p answers o
   pub data Seen {A : Type 0} (front : List Token) (p : Reader A) (e : ℕ) : List Token → Out A → Type 0 where
     taken : (part m : List Token) {a : A} {fs : List Fault}
         → ((m′ : List Token) → SameNext m m′ → p e (part ++ m′) ≡ got a fs (lastEnd e part) m′)
         → Seen front p e (part ++ m) (got a fs (lastEnd e part) m)
-    stopped : (part m : List Token) {f : Fault} → Why all (front ++ part) (lastEnd e part) m f
+    stopped : (part m : List Token) {f : Fault} → Why site (front ++ part) (lastEnd e part) m f
         → ((m′ : List Token) → SameNext m m′ → p e (part ++ m′) ≡ stop f) → Seen front p e (part ++ m) (stop f)
 
   abbrev pub Here : {A : Type 0} → List Token → Reader A → ℕ → List Token → Type 0
@@ -86,13 +84,13 @@ module _ (all : List Token) where
   append-nothing (x ∷ xs) = ap (λ z. x ∷ z) (append-nothing xs)
 
   pub here-stop : {A : Type 0} {front : List Token} {e : ℕ} {ts : List Token} (F : ℕ → List Token → Fault)
-      → ((m m′ : List Token) → SameNext m m′ → F e m ≡ F e m′) → Why all front e ts (F e ts) → Here {A = A} front (λ e ts. stop (F e ts)) e ts
+      → ((m m′ : List Token) → SameNext m m′ → F e m ≡ F e m′) → Why site front e ts (F e ts) → Here {A = A} front (λ e ts. stop (F e ts)) e ts
   unfolding lastEnd
   here-stop {front = front} {e = e} {ts = ts} F same why =
-      stopped [] ts (subst (λ x. Why all x e ts (F e ts)) (sym (append-nothing front)) why) (λ m′ s. ap stop (sym (same ts m′ s)))
+      stopped [] ts (subst (λ x. Why site x e ts (F e ts)) (sym (append-nothing front)) why) (λ m′ s. ap stop (sym (same ts m′ s)))
 
   pub here-stop-at : {A : Type 0} {front : List Token} {e : ℕ} {ts : List Token} (k : FaultKind)
-      → Why all front e ts (faultAt k (spanHere e ts)) → Here {A = A} front (stopAt k) e ts
+      → Why site front e ts (faultAt k (spanHere e ts)) → Here {A = A} front (stopAt k) e ts
   unfolding stopAt
   here-stop-at {e = e} k why = here-stop (λ e ts. faultAt k (spanHere e ts)) (λ m m′ s. ap (faultAt k) (span-same e s)) why
 
@@ -137,8 +135,8 @@ module _ (all : List Token) where
       ∙ ap (add fs) (same₂ m′ s) ∙ ap (λ x. got b (fs ++ gs) x m′) (sym (end-joined e part part₂)))))
   join p k {front = front} {e = e} part {a = a} {fs = fs} same (stopped part₂ m₂ {f = f} why same₂) =
       let P : List Token → Type 0 = λ x. Seen front (λ e ts. bind (p e ts) k) e x (stop f) in
-      let W : List Token → Type 0 = λ x. Why all x (lastEnd (lastEnd e part) part₂) m₂ f in
-      let V : ℕ → Type 0 = λ x. Why all (front ++ (part ++ part₂)) x m₂ f in
+      let W : List Token → Type 0 = λ x. Why site x (lastEnd (lastEnd e part) part₂) m₂ f in
+      let V : ℕ → Type 0 = λ x. Why site (front ++ (part ++ part₂)) x m₂ f in
       subst P (append-assoc part part₂ m₂) (stopped (part ++ part₂) m₂
       (subst V (sym (end-joined e part part₂)) (subst W (append-assoc front part part₂) why)) (λ m′ s.
       ap (λ x. bind (p e x) k) (append-assoc part part₂ m′) ∙ ap (λ x. bind x k) (same (part₂ ++ m′) (extend part₂ s)) ∙ ap (add fs) (same₂ m′ s)))
@@ -171,37 +169,37 @@ module _ (all : List Token) where
     unfolding token test
     not-token e x h = rw h refl
 
-    pub here-token : {front : List Token} (e : ℕ) (ts : List Token) → (p (next ts) ≡ false → Why all front e ts (faultAt k (spanHere e ts))) → Here front (token k p w) e ts
+    pub here-token : {front : List Token} (e : ℕ) (ts : List Token) → (p (next ts) ≡ false → Why site front e ts (faultAt k (spanHere e ts))) → Here front (token k p w) e ts
     unfolding next lastEnd
     here-token {front = front} e ts why = go ts why
       where
-        nothing : (ts : List Token) → p (next ts) ≡ false → Why all front e ts (faultAt k (spanHere e ts)) → Here front (token k p w) e ts
+        nothing : (ts : List Token) → p (next ts) ≡ false → Why site front e ts (faultAt k (spanHere e ts)) → Here front (token k p w) e ts
         nothing ts h y = as-other (stopAt k) (λ x s. not-token e x (ap p (sym (next-same s)) ∙ h)) (here-stop-at k y)
 
-        one : (t : Token) (ts : List Token) (v : Bool) → p t ≡ v → (p t ≡ false → Why all front e (t ∷ ts) (faultAt k (spanHere e (t ∷ ts)))) → Here front (token k p w) e (t ∷ ts)
+        one : (t : Token) (ts : List Token) (v : Bool) → p t ≡ v → (p t ≡ false → Why site front e (t ∷ ts) (faultAt k (spanHere e (t ∷ ts)))) → Here front (token k p w) e (t ∷ ts)
         one t ts true h y = subst (λ o. Seen front (token k p w) e (t ∷ ts) o) (sym (token-is t e ts h)) (taken (t ∷ []) ts (λ m′ s. token-is t e m′ h))
         one t ts false h y = nothing (t ∷ ts) h (y h)
 
-        go : (ts : List Token) → (p (next ts) ≡ false → Why all front e ts (faultAt k (spanHere e ts))) → Here front (token k p w) e ts
+        go : (ts : List Token) → (p (next ts) ≡ false → Why site front e ts (faultAt k (spanHere e ts))) → Here front (token k p w) e ts
         go [] y = nothing [] none (y none)
         go (t ∷ ts) y = one t ts (p t) refl y
 
     -- and what follows it
     pub after-token : {B : Type 0} {K : Token → Reader B} {front : List Token} (e : ℕ) (ts : List Token)
-        → (p (next ts) ≡ false → Why all front e ts (faultAt k (spanHere e ts))) → ((t : Token) → p t ≡ true → LocalAt (front ++ (t ∷ [])) (K t))
+        → (p (next ts) ≡ false → Why site front e ts (faultAt k (spanHere e ts))) → ((t : Token) → p t ≡ true → LocalAt (front ++ (t ∷ [])) (K t))
         → Here front (λ e ts. bind (token k p w e ts) K) e ts
     unfolding next lastEnd bind stopAt
     after-token {B = B} {K = K} {front = front} e ts why l = go ts why
       where
-        nothing : (ts : List Token) → p (next ts) ≡ false → Why all front e ts (faultAt k (spanHere e ts)) → Here front (λ e ts. bind (token k p w e ts) K) e ts
+        nothing : (ts : List Token) → p (next ts) ≡ false → Why site front e ts (faultAt k (spanHere e ts)) → Here front (λ e ts. bind (token k p w e ts) K) e ts
         nothing ts h y = as-other (stopAt {A = B} k) (λ x s. ap (λ o. bind o K) (not-token e x (ap p (sym (next-same s)) ∙ h))) (here-stop-at k y)
 
-        one : (t : Token) (ts : List Token) (v : Bool) → p t ≡ v → (p t ≡ false → Why all front e (t ∷ ts) (faultAt k (spanHere e (t ∷ ts)))) → Here front (λ e ts. bind (token k p w e ts) K) e (t ∷ ts)
+        one : (t : Token) (ts : List Token) (v : Bool) → p t ≡ v → (p t ≡ false → Why site front e (t ∷ ts) (faultAt k (spanHere e (t ∷ ts)))) → Here front (λ e ts. bind (token k p w e ts) K) e (t ∷ ts)
         one t ts true h y = subst (λ o. Seen front (λ e ts. bind (token k p w e ts) K) e (t ∷ ts) o) (ap (λ o. bind o K) (sym (token-is t e ts h)))
             (join (token k p w) K (t ∷ []) (λ m′ s. token-is t e m′ h) (l t h (t .span .end) ts))
         one t ts false h y = nothing (t ∷ ts) h (y h)
 
-        go : (ts : List Token) → (p (next ts) ≡ false → Why all front e ts (faultAt k (spanHere e ts))) → Here front (λ e ts. bind (token k p w e ts) K) e ts
+        go : (ts : List Token) → (p (next ts) ≡ false → Why site front e ts (faultAt k (spanHere e ts))) → Here front (λ e ts. bind (token k p w e ts) K) e ts
         go [] y = nothing [] none (y none)
         go (t ∷ ts) y = one t ts (p t) refl y
 

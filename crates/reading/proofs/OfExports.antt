@@ -1,18 +1,17 @@
 -- Export clauses.
-use mathlib.Core.Path.{_≡_, refl, sym, ap, subst, _∙_}
-use mathlib.Core.Bool.{Bool, true, false, _||_, cond}
-use mathlib.Core.List.{List, [], _∷_, _++_}
+use mathlib.Core.Path.{_≡_, refl}
+use mathlib.Core.Bool.{Bool, true, false, cond}
+use mathlib.Core.List.{List, [], _∷_}
 use Prim.Native.Nat.{ℕ, zero, suc, _+_, _≤_}
 use native.Mathlib.Omega.{arith}
-use lib.ListN.{length, take, drop}
-use Rattle.std.specs.declared.option.Option.{Option}
+use lib.ListN.{length}
 use Rattle.std.specs.declared.option.Option.the-variants.{Some, None}
 use Rattle.std.specs.declared.result.Result.{Result}
 use Rattle.std.specs.declared.result.Result.the-variants.{Ok, Err}
 use Rattle.std.specs.shelf.Maps.{nth}
 use Rattle.std.proofs.shelf.Maps.{nth-past}
 use Rattle.std.proofs.shelf.Tests.{or-parts, or-from}
-use Rattle.kinds.specs.declared.kind.Kind.the-variants.{As, From, Star, LCurly, RCurly, Default, Import, Export}
+use Rattle.kinds.specs.declared.kind.Kind.the-variants.{As, From, Star, LCurly, RCurly, Default}
 use Rattle.lexer.specs.declared.token.Token.{Token}
 use Rattle.lexer.specs.Tokens.{partOf}
 use Rattle.pages.specs.declared.fault.FaultKind.the-variants.{Foreign, ExportString, ExportReserved}
@@ -21,18 +20,18 @@ use Rattle.pages.specs.declared.rows.Specifier.{Specifier}
 use Rattle.pages.specs.declared.rows.Attribute.{Attribute}
 use Rattle.pages.specs.Faults.{faultAt}
 use Rattle.reading.specs.declared.naming.Naming.{Naming}
-use Rattle.reading.specs.Ahead.{next, at, clauseFollows}
+use Rattle.reading.specs.Ahead.{clauseFollows}
 use Rattle.reading.specs.Settings.{Setting}
 use Rattle.reading.specs.Hosts.{Host}
-use Rattle.reading.specs.Readings.{reservedText, Clause, all-from, names-from, names, declared, defaulted, tokensAt, Fits}
-use Rattle.reading.specs.Grammar.{One, one, Sign, Word, N, Braces, ExportSpecifier, Locals, locals-none, locals-more, Sourced, sourced, ExportClause, all-of, all-as, some-of, own, by-declaration, by-default}
-use Rattle.reading.specs.Steps.{Out, got, Reader, test, ending}
+use Rattle.reading.specs.Readings.{reservedText, Clause, all-from, names-from, names, tokensAt, Fits}
+use Rattle.reading.specs.Grammar.{Word, Locals, locals-none, locals-more, Sourced, sourced, ExportClause, all-of, all-as, some-of, own, by-declaration, by-default}
+use Rattle.reading.specs.Steps.{Out, ending}
 use Rattle.reading.specs.Braces.{braced}
 use Rattle.reading.specs.Attributes.{attributes}
 use Rattle.reading.specs.Exports.{exportSpecifier, exportLocal, locals, exportAll, exportBraces, roomFor, declaredBy, defaultedBy, exportClause}
 use Rattle.reading.specs.Exports as reader
 use Rattle.reading.specs.Main.{Cleanly}
-use Rattle.reading.proofs.Clean.{Right, took, takes, bound-of, binds, tested, passes, fails, stopped, stopped-at, done, ends, added, adds, faulty, front-none}
+use Rattle.reading.proofs.Clean.{took, takes, bound-of, binds, tested, passes, fails, stopped, stopped-at, done, ends, added, adds, faulty, front-none}
 use Rattle.reading.proofs.OfKinds.{star-right, as-right, default-right, name-right, sign-at, word-at}
 use Rattle.reading.proofs.Specifiers.{exports-sound, exports-complete}
 use Rattle.reading.proofs.Forms.{source-right, from-at, braces-at}

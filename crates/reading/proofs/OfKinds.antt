@@ -1,24 +1,23 @@
 -- Facts of kinds, and the readers of one token.
 use mathlib.Core.Path.{_≡_, refl, sym, ap, subst, _∙_}
-use mathlib.Core.Bool.{Bool, true, false, _||_, _&&_, cond}
+use mathlib.Core.Bool.{Bool, true, false, _&&_, cond}
 use mathlib.Core.List.{List, [], _∷_}
-use mathlib.Core.Logic.{_⊎_, inl, inr}
+use mathlib.Core.Logic.{inl, inr}
 use Prim.Native.Nat.{ℕ}
 use native.Mathlib.Omega.{arith}
 use lib.Dec.{eqb}
-use Rattle.std.proofs.shelf.Tests.{eqb-true, eq-eqb, and-parts, and-left, and-right, or-cases, or-left, or-right}
+use Rattle.std.proofs.shelf.Tests.{eqb-true, eq-eqb, and-right}
 use Rattle.kinds.specs.declared.kind.Kind.{Kind}
 use Rattle.kinds.specs.declared.kind.Kind.the-variants.{Eof, Str, Undetermined, Import, Export, Default, From, As, Star, LCurly, RCurly, Comma, Colon, Eq, With, Assert, Defer, Source}
 use Rattle.kinds.specs.Numbers.{number, number-injective, same}
 use Rattle.kinds.specs.Classes.{has, isReserved, isContextual, isStrict, isFuture, isKeyword, isIdentifierName, isIdentifier, isBinding}
 use Rattle.lexer.specs.declared.token.Token.{Token}
-use Rattle.pages.specs.declared.fault.Fault.{Fault}
 use Rattle.pages.specs.declared.fault.FaultKind.{FaultKind}
 use Rattle.pages.specs.declared.fault.FaultKind.the-variants.{Expected, Unexpected, EscapedKeyword}
 use Rattle.pages.specs.Faults.{faultAt}
 use Rattle.reading.specs.Ahead.{next, at}
 use Rattle.reading.specs.Grammar.{One, one, Sign, Word, B, S, N, Key}
-use Rattle.reading.specs.Steps.{Out, got, token, none, esc, word, str, binding, identifier, name}
+use Rattle.reading.specs.Steps.{none, esc, word, str, binding, identifier, name}
 use Rattle.reading.specs.Attributes.{key}
 use Rattle.reading.specs.Main.{Cleanly}
 use Rattle.reading.proofs.Clean.{Right, token-right, faulty, clash, tested, took, takes, stopped, done, ends, passes, fails}

@@ -2,8 +2,9 @@
 use mathlib.Core.Path.{_≡_, refl, sym, ap, subst, _∙_}
 use mathlib.Core.Bool.{Bool, true, false, not, _||_, _&&_}
 use mathlib.Core.List.{List, [], _∷_, _++_}
-use mathlib.Core.Logic.{_⊎_, inl, inr}
+use mathlib.Core.Logic.{inl}
 use Prim.Native.Nat.{ℕ, zero, suc, _+_, _-_}
+use native.Mathlib.Nat.{add-zero}
 use native.Mathlib.Omega.{arith}
 use lib.Dec.{eqb, leb}
 use lib.ListN.{length, take, drop, take-append-drop}
@@ -11,12 +12,12 @@ use Rattle.std.specs.declared.result.Result.{Result}
 use Rattle.std.specs.declared.result.Result.the-variants.{Ok, Err}
 use Rattle.std.proofs.shelf.Tests.{le-leb, and-parts, and-left}
 use Rattle.kinds.specs.declared.kind.Kind.{Kind}
-use Rattle.kinds.specs.declared.kind.Kind.the-variants.{Eof, Import, Export, Star, LCurly, LParen, Dot, Default}
+use Rattle.kinds.specs.declared.kind.Kind.the-variants.{Import, Export, Star, LCurly, LParen, Dot, Default}
 use Rattle.kinds.specs.Numbers.{number, same}
 use Rattle.lexer.specs.declared.token.Token.{Token}
 use Rattle.pages.specs.declared.fault.Fault.{Fault}
 use Rattle.pages.specs.declared.fault.FaultKind.the-variants.{Expected, Foreign}
-use Rattle.pages.specs.Faults.{faultAt, faultOfHost}
+use Rattle.pages.specs.Faults.{faultOfHost}
 use Rattle.reading.specs.Ahead.{next, rest, spanHere, at, importFollows}
 use Rattle.reading.specs.Settings.{Setting}
 use Rattle.reading.specs.Hosts.{Host}
@@ -26,11 +27,11 @@ use Rattle.reading.specs.Attributes.{attributes}
 use Rattle.reading.specs.Imports.{form, importing}
 use Rattle.reading.specs.Exports.{exportAll, exportBraces, exportClause, exporting}
 use Rattle.reading.specs.Items.{statedBy, clause, item}
-use Rattle.reading.specs.Laws.{SameNext, Why, refused, imports, NoHost, an-import, all-of, some-of, foreign, Stop, SameStop, Taken, Laws, LawsOfStops}
+use Rattle.reading.specs.Laws.{Site, SameNext, Why, refused, imports, NoHost, an-import, all-of, some-of, foreign, Stop, SameStop, Taken, LawsOfStops}
 use Rattle.reading.proofs.Clean.{clash}
 use Rattle.reading.proofs.OfKinds.{same-is, seen}
 use Rattle.reading.proofs.Fronts.{upto-front}
-use Rattle.reading.proofs.Local.{self, extend, next-same, end-joined, Seen, taken, stopped, Here, LocalAt, Local, as-other, local-got, here-stop-at, after, local-crowded}
+use Rattle.reading.proofs.Local.{self, extend, next-same, Seen, taken, stopped, Here, Local, local-got, here-stop-at, after, local-crowded}
 use Rattle.reading.proofs.OfReaders.{never, form-local, attributes-local, ending-local, export-all-here, export-braces-here, export-local}
 
 -- what follows `import`
@@ -38,9 +39,9 @@ abbrev importRest : Setting → List ℕ → Reader Clause
 importRest w text e₁ m =
     bind (form w e₁ m) λ f e₂ n. bind (attributes w text e₂ n) λ l e₃ o. bind (ending e₃ o) λ _ e₄ r. got (imported f l) [] e₄ r
 
-import-local : (all : List Token) (w : Setting) (text : List ℕ) → Local all (importRest w text)
-import-local all w text front e ts = after all (form-local all w front e ts) (λ f part e ts. after all (attributes-local all w text _ e ts) (λ l part₂ e ts.
-    after all (ending-local all _ e ts) (λ _ part₃. local-got all (imported f l))))
+import-local : (site : Site) (w : Setting) (text : List ℕ) → Local site (importRest w text)
+import-local site w text front e ts = after site (form-local site w front e ts) (λ f part e ts. after site (attributes-local site w text _ e ts) (λ l part₂ e ts.
+    after site (ending-local site _ e ts) (λ _ part₃. local-got site (imported f l))))
 
 abbrev made : List Token → Clause → Reader Item
 made ts c e m = got (record { tokens = upto ts m; clause = c }) [] e m
@@ -49,19 +50,19 @@ made ts c e m = got (record { tokens = upto ts m; clause = c }) [] e m
 abbrev body : ℕ → Token → List Fault → Reader Clause → Reader Item
 body room t fs K e x = crowded room (bind (add fs (K e x)) (made (t ∷ x)))
 
-module _ (all : List Token) where
+module _ (site : Site) where
   itemized : (t : Token) (fs : List Fault) {K : Reader Clause} {front : List Token} {e : ℕ} {x : List Token} {o : Out Clause}
-      → Seen all front K e x o → Seen all front (λ e x. bind (add fs (K e x)) (made (t ∷ x))) e x (bind (add fs o) (made (t ∷ x)))
+      → Seen site front K e x o → Seen site front (λ e x. bind (add fs (K e x)) (made (t ∷ x))) e x (bind (add fs o) (made (t ∷ x)))
   unfolding bind add
   itemized t fs {K = K} {front = front} {e = e} (taken part m {a = c} {fs = gs} same) =
       let u : (m : List Token) → upto (t ∷ (part ++ m)) m ≡ t ∷ part = λ m. upto-front (t ∷ part) m in
       let value : List Token → List Token → Out Item = λ xs m. got (record { tokens = xs; clause = c }) ((fs ++ gs) ++ []) (lastEnd e part) m in
-      subst (λ xs. Seen all front (λ e x. bind (add fs (K e x)) (made (t ∷ x))) e (part ++ m) (value xs m)) (sym (u m))
+      subst (λ xs. Seen site front (λ e x. bind (add fs (K e x)) (made (t ∷ x))) e (part ++ m) (value xs m)) (sym (u m))
       (taken part m (λ m′ s. ap (λ o. bind (add fs o) (made (t ∷ (part ++ m′)))) (same m′ s) ∙ ap (λ xs. value xs m′) (u m′)))
   itemized t fs (stopped part m why same) = stopped part m why (λ m′ s. ap (λ o. bind (add fs o) (made (t ∷ (part ++ m′)))) (same m′ s))
 
-  body-here : (room : ℕ) (t : Token) (fs : List Fault) {K : Reader Clause} {front : List Token} {e : ℕ} {x : List Token} → Here all front K e x → Here all front (body room t fs K) e x
-  body-here room t fs s = local-crowded all room (itemized t fs s)
+  body-here : (room : ℕ) (t : Token) (fs : List Fault) {K : Reader Clause} {front : List Token} {e : ℕ} {x : List Token} → Here site front K e x → Here site front (body room t fs K) e x
+  body-here room t fs s = local-crowded site room (itemized t fs s)
 
 -- the first token
 first-is : (k : Kind) (t : Token) (e : ℕ) (x : List Token) (K : Reader Clause) → t .kind ≡ k → eqb (number k) (number k) ≡ true
@@ -94,21 +95,21 @@ module _ (w : Setting) (text : List ℕ) (t : Token) where
       ∙ ap (λ o. crowded (w .faults) (bind o (made (t ∷ x)))) (first-is Export t e x (exportClause w text h all (n + 1)) (same-is (t .kind) Export g) refl)
 
 -- what is read from what was seen
-record Begins (t : Token) (i : Item) : Type 0 where
-  part : List Token
-  is : i .tokens ≡ t ∷ part
+pub record Begins (t : Token) (i : Item) : Type 0 where
+  pub part : List Token
+  pub is : i .tokens ≡ t ∷ part
 
-module _ (w : Setting) (text : List ℕ) (all : List Token) (t : Token) where
-  stop-of : {P : Reader Item} {x : List Token} {o : Out Item} {f : Fault} (e : ℕ) → Seen all (t ∷ []) P (t .span .end) x o → o ≡ stop f → Stop all e (t ∷ x) f
+module _ (w : Setting) (text : List ℕ) (site : Site) (t : Token) where
+  stop-of : {P : Reader Item} {x : List Token} {o : Out Item} {f : Fault} (e : ℕ) → Seen site (t ∷ []) P (t .span .end) x o → o ≡ stop f → Stop site e (t ∷ x) f
   unfolding lastEnd
   stop-of e (taken part m same) p = never p
   stop-of {f = f} e (stopped part m {f = g} why same) p =
       let q : g ≡ f = cc in
-      record { part = t ∷ part; left = m; is = refl; why = subst (λ y. Why all (t ∷ part) (lastEnd (t .span .end) part) m y) q why }
+      record { part = t ∷ part; left = m; is = refl; why = subst (λ y. Why site (t ∷ part) (lastEnd (t .span .end) part) m y) q why }
 
   same-of : (K : Reader Clause) (e : ℕ) {x : List Token} {o : Out Item} {f : Fault}
       → ((x′ : List Token) → SameNext x x′ → (h : Host) (all : List Token) (n : ℕ) → item w text h all n e (t ∷ x′) ≡ body (w .faults) t (esc t) K (t .span .end) x′)
-      → Seen all (t ∷ []) (body (w .faults) t (esc t) K) (t .span .end) x o → o ≡ stop f → SameStop w text all e (t ∷ x) f
+      → Seen site (t ∷ []) (body (w .faults) t (esc t) K) (t .span .end) x o → o ≡ stop f → SameStop w text site e (t ∷ x) f
   unfolding lastEnd
   same-of K e eqs (taken part m same) p = never p
   same-of K e {f = f} eqs (stopped part m {f = g} why same) p =
@@ -117,12 +118,12 @@ module _ (w : Setting) (text : List ℕ) (all : List Token) (t : Token) where
         part = t ∷ part;
         left = m;
         is = refl;
-        why = subst (λ y. Why all (t ∷ part) (lastEnd (t .span .end) part) m y) q why;
+        why = subst (λ y. Why site (t ∷ part) (lastEnd (t .span .end) part) m y) q why;
         same = λ m′ s h all n. eqs (part ++ m′) (extend part s) h all n ∙ same m′ s ∙ ap stop q;
       }
 
   taken-of : {P : Reader Item} {x : List Token} {o : Out Item} {i : Item} {fs : List Fault} {e′ : ℕ} {m : List Token} (e : ℕ)
-      → Seen all (t ∷ []) P (t .span .end) x o → o ≡ got i fs e′ m → i .tokens ≡ upto (t ∷ x) m → Taken e (t ∷ x) i e′ m
+      → Seen site (t ∷ []) P (t .span .end) x o → o ≡ got i fs e′ m → i .tokens ≡ upto (t ∷ x) m → Taken e (t ∷ x) i e′ m
   unfolding lastEnd
   taken-of {i = i} {e′ = e′} {m = m} e (taken part m₁ same) p u =
       let q : m₁ ≡ m = cc in
@@ -132,7 +133,7 @@ module _ (w : Setting) (text : List ℕ) (all : List Token) (t : Token) where
   taken-of e (stopped part m₁ why same) p u = never (sym p)
 
   begins-of : {P : Reader Item} {x : List Token} {o : Out Item} {i : Item} {fs : List Fault} {e′ : ℕ} {m : List Token}
-      → Seen all (t ∷ []) P (t .span .end) x o → o ≡ got i fs e′ m → i .tokens ≡ upto (t ∷ x) m → Begins t i
+      → Seen site (t ∷ []) P (t .span .end) x o → o ≡ got i fs e′ m → i .tokens ≡ upto (t ∷ x) m → Begins t i
   begins-of {m = m} (taken part m₁ same) p u =
       let q : m₁ ≡ m = cc in
       record { part = part; is = u ∙ ap (λ y. upto (t ∷ (part ++ m₁)) y) (sym q) ∙ upto-front (t ∷ part) m₁ }
@@ -164,6 +165,9 @@ not-export = refl
 
 -- the host's statement
 module _ (w : Setting) (text : List ℕ) (h : Host) (all : List Token) (n : ℕ) where
+  abbrev site : Site
+  site = record { host = h; all = all; first = n }
+
   stated-is : (e : ℕ) (ts : List Token) → importFollows ts ≡ false → at Export ts ≡ false
       → item w text h all n e ts ≡ crowded (w .faults) (bind (statedBy (h .statement all n) e ts) (made ts))
   unfolding item clause test
@@ -179,12 +183,12 @@ module _ (w : Setting) (text : List ℕ) (h : Host) (all : List Token) (n : ℕ)
   unfolding statedBy bind crowded
   refusal c e ts = refl
 
-  stated-stop : (a : Result ℕ ℕ) (e : ℕ) (ts : List Token) (f : Fault) → crowded (w .faults) (bind (statedBy a e ts) (made ts)) ≡ stop f → Stop all e ts f
+  stated-stop : (a : Result ℕ ℕ) → h .statement all n ≡ a → (e : ℕ) (ts : List Token) (f : Fault) → crowded (w .faults) (bind (statedBy a e ts) (made ts)) ≡ stop f → Stop site e ts f
   unfolding lastEnd
-  stated-stop (Err c) e ts f p =
+  stated-stop (Err c) u e ts f p =
       let q : faultOfHost c (spanHere e ts) ≡ f = cc (refusal c e ts) in
-      record { part = []; left = ts; is = refl; why = subst (λ y. Why all [] e ts y) q (refused c) }
-  stated-stop (Ok k) e ts f p = never (sym (few k e ts) ∙ p)
+      record { part = []; left = ts; is = refl; why = subst (λ y. Why site [] e ts y) q (refused c (inl (ap (h .statement all) (add-zero n) ∙ u))) }
+  stated-stop (Ok k) u e ts f p = never (sym (few k e ts) ∙ p)
 
   stated-taken : (a : Result ℕ ℕ) (e : ℕ) (ts : List Token) (i : Item) (fs : List Fault) (e′ : ℕ) (m : List Token)
       → crowded (w .faults) (bind (statedBy a e ts) (made ts)) ≡ got i fs e′ m → Taken e ts i e′ m
@@ -215,11 +219,11 @@ module _ (w : Setting) (text : List ℕ) (h : Host) (all : List Token) (n : ℕ)
 
   -- any item
   module _ (e : ℕ) (t : Token) (x : List Token) where
-    import-seen : Here all (t ∷ []) (body (w .faults) t (esc t) (importRest w text)) (t .span .end) x
-    import-seen = body-here all (w .faults) t (esc t) (import-local all w text (t ∷ []) (t .span .end) x)
+    import-seen : Here site (t ∷ []) (body (w .faults) t (esc t) (importRest w text)) (t .span .end) x
+    import-seen = body-here site (w .faults) t (esc t) (import-local site w text (t ∷ []) (t .span .end) x)
 
-    export-seen : Here all (t ∷ []) (body (w .faults) t (esc t) (exportClause w text h all (n + 1))) (t .span .end) x
-    export-seen = body-here all (w .faults) t (esc t) (export-local all w text h (n + 1) (t ∷ []) (t .span .end) x)
+    export-seen : Here site (t ∷ []) (body (w .faults) t (esc t) (exportClause w text h all (n + 1))) (t .span .end) x
+    export-seen = body-here site (w .faults) t (esc t) (export-local site w text (n + 1) (t ∷ []) refl (t .span .end) x)
 
     cases : (C : Type 0) → (importFollows (t ∷ x) ≡ true → C) → (importFollows (t ∷ x) ≡ false → same (t .kind) Export ≡ true → C)
         → (importFollows (t ∷ x) ≡ false → same (t .kind) Export ≡ false → C) → C
@@ -230,29 +234,29 @@ module _ (w : Setting) (text : List ℕ) (h : Host) (all : List Token) (n : ℕ)
         go false true p q = g p q
         go false false p q = k p q
 
-    stop-first : (f : Fault) → item w text h all n e (t ∷ x) ≡ stop f → Stop all e (t ∷ x) f
+    stop-first : (f : Fault) → item w text h all n e (t ∷ x) ≡ stop f → Stop site e (t ∷ x) f
     unfolding next
-    stop-first f p = cases (Stop all e (t ∷ x) f)
-        (λ a. stop-of w text all t e import-seen (sym (import-is w text t h all n e x a) ∙ p))
-        (λ a b. stop-of w text all t e export-seen (sym (export-is w text t h all n e x a b) ∙ p))
-        (λ a b. stated-stop (h .statement all n) e (t ∷ x) f (sym (stated-is e (t ∷ x) a b) ∙ p))
+    stop-first f p = cases (Stop site e (t ∷ x) f)
+        (λ a. stop-of w text site t e import-seen (sym (import-is w text t h all n e x a) ∙ p))
+        (λ a b. stop-of w text site t e export-seen (sym (export-is w text t h all n e x a b) ∙ p))
+        (λ a b. stated-stop (h .statement all n) refl e (t ∷ x) f (sym (stated-is e (t ∷ x) a b) ∙ p))
 
     taken-first : (i : Item) (fs : List Fault) (e′ : ℕ) (m : List Token) → item w text h all n e (t ∷ x) ≡ got i fs e′ m → Taken e (t ∷ x) i e′ m
     unfolding next
     taken-first i fs e′ m p = cases (Taken e (t ∷ x) i e′ m)
         (λ a. let q = sym (import-is w text t h all n e x a) ∙ p in
-        taken-of w text all t e import-seen q (crowded-tokens (w .faults) (t ∷ x) (add (esc t) (importRest w text (t .span .end) x)) q))
+        taken-of w text site t e import-seen q (crowded-tokens (w .faults) (t ∷ x) (add (esc t) (importRest w text (t .span .end) x)) q))
         (λ a b. let q = sym (export-is w text t h all n e x a b) ∙ p in
-        taken-of w text all t e export-seen q (crowded-tokens (w .faults) (t ∷ x) (add (esc t) (exportClause w text h all (n + 1) (t .span .end) x)) q))
+        taken-of w text site t e export-seen q (crowded-tokens (w .faults) (t ∷ x) (add (esc t) (exportClause w text h all (n + 1) (t .span .end) x)) q))
         (λ a b. stated-taken (h .statement all n) e (t ∷ x) i fs e′ m (sym (stated-is e (t ∷ x) a b) ∙ p))
 
-    begins-first : (i : Item) (fs : List Fault) (e′ : ℕ) (m : List Token) → item w text h all n e (t ∷ x) ≡ got i fs e′ m → Begins t i
+    pub begins-first : (i : Item) (fs : List Fault) (e′ : ℕ) (m : List Token) → item w text h all n e (t ∷ x) ≡ got i fs e′ m → Begins t i
     unfolding next
     begins-first i fs e′ m p = cases (Begins t i)
         (λ a. let q = sym (import-is w text t h all n e x a) ∙ p in
-        begins-of w text all t import-seen q (crowded-tokens (w .faults) (t ∷ x) (add (esc t) (importRest w text (t .span .end) x)) q))
+        begins-of w text site t import-seen q (crowded-tokens (w .faults) (t ∷ x) (add (esc t) (importRest w text (t .span .end) x)) q))
         (λ a b. let q = sym (export-is w text t h all n e x a b) ∙ p in
-        begins-of w text all t export-seen q (crowded-tokens (w .faults) (t ∷ x) (add (esc t) (exportClause w text h all (n + 1) (t .span .end) x)) q))
+        begins-of w text site t export-seen q (crowded-tokens (w .faults) (t ∷ x) (add (esc t) (exportClause w text h all (n + 1) (t .span .end) x)) q))
         (λ a b. stated-begins (h .statement all n) refl e t x i fs e′ m (sym (stated-is e (t ∷ x) a b) ∙ p))
 
     span-first : (i : Item) (fs : List Fault) (e′ : ℕ) (m : List Token) → item w text h all n e (t ∷ x) ≡ got i fs e′ m
@@ -263,8 +267,8 @@ module _ (w : Setting) (text : List ℕ) (h : Host) (all : List Token) (n : ℕ)
         let q : lastEnd (t .span .end) (b .part) ≡ e′ = sym (taken-first i fs e′ m p .end ∙ ap (lastEnd e) (b .is)) in
         ap spanOf (b .is) ∙ ap (λ y. record { start = t .span .start; end = y }) q
 
-  pub stop-law : (e : ℕ) (ts : List Token) (f : Fault) → item w text h all n e ts ≡ stop f → Stop all e ts f
-  stop-law e [] f p = stated-stop (h .statement all n) e [] f (sym (stated-is e [] not-import not-export) ∙ p)
+  pub stop-law : (e : ℕ) (ts : List Token) (f : Fault) → item w text h all n e ts ≡ stop f → Stop site e ts f
+  stop-law e [] f p = stated-stop (h .statement all n) refl e [] f (sym (stated-is e [] not-import not-export) ∙ p)
   stop-law e (t ∷ x) f p = stop-first e t x f p
 
   pub taken-law : (e : ℕ) (ts : List Token) (i : Item) (fs : List Fault) (e′ : ℕ) (m : List Token) → item w text h all n e ts ≡ got i fs e′ m → Taken e ts i e′ m
@@ -302,21 +306,21 @@ module _ (w : Setting) (text : List ℕ) (t : Token) where
       let k : next x′ .kind ≡ Import = ap (λ u. u .kind) (sym (next-same s)) ∙ same-is (next x .kind) Import g in
       rw (seen Star k refl, seen LCurly k refl, seen Default k refl, seen Import k refl) refl
 
-  pub alike-law : (h : Host) (all : List Token) (n e : ℕ) (x : List Token) (f : Fault) → NoHost (t ∷ x) → item w text h all n e (t ∷ x) ≡ stop f → SameStop w text all e (t ∷ x) f
+  pub alike-law : (h : Host) (all : List Token) (n e : ℕ) (x : List Token) (f : Fault) → NoHost (t ∷ x) → item w text h all n e (t ∷ x) ≡ stop f → SameStop w text (record { host = h; all = all; first = n }) e (t ∷ x) f
   unfolding next rest
   alike-law h all n e x f (an-import a) p =
       let eqs : (x′ : List Token) → SameNext x x′ → (h : Host) (all : List Token) (n : ℕ) → item w text h all n e (t ∷ x′) ≡ body (w .faults) t (esc t) (importRest w text) (t .span .end) x′
       = λ x′ s h all n. import-is w text t h all n e x′ (sym (follows-same w text t s) ∙ a) in
-      same-of w text all t (importRest w text) e eqs (import-seen w text h all n e t x) (sym (eqs x (self x) h all n) ∙ p)
+      same-of w text (record { host = h; all = all; first = n }) t (importRest w text) e eqs (import-seen w text h all n e t x) (sym (eqs x (self x) h all n) ∙ p)
   alike-law h all n e x f (all-of b c) p =
       let eqs = free-is (exportAll w text) x (no-import x b) b (star-is x c) e in
-      same-of w text all t (exportAll w text) e eqs (body-here all (w .faults) t (esc t) (export-all-here all w text (t ∷ []) (t .span .end) x c)) (sym (eqs x (self x) h all n) ∙ p)
+      same-of w text (record { host = h; all = all; first = n }) t (exportAll w text) e eqs (body-here (record { host = h; all = all; first = n }) (w .faults) t (esc t) (export-all-here (record { host = h; all = all; first = n }) w text (t ∷ []) (t .span .end) x c)) (sym (eqs x (self x) h all n) ∙ p)
   alike-law h all n e x f (some-of b c) p =
       let eqs = free-is (exportBraces w text) x (no-import x b) b (braces-is x c) e in
-      same-of w text all t (exportBraces w text) e eqs (body-here all (w .faults) t (esc t) (export-braces-here all w text (t ∷ []) (t .span .end) x c)) (sym (eqs x (self x) h all n) ∙ p)
+      same-of w text (record { host = h; all = all; first = n }) t (exportBraces w text) e eqs (body-here (record { host = h; all = all; first = n }) (w .faults) t (esc t) (export-braces-here (record { host = h; all = all; first = n }) w text (t ∷ []) (t .span .end) x c)) (sym (eqs x (self x) h all n) ∙ p)
   alike-law h all n e x f (foreign b c) p =
       let eqs = free-is (stopAt Foreign) x (no-import x b) b (import-stops x c) e in
-      same-of w text all t (stopAt Foreign) e eqs (body-here all (w .faults) t (esc t) (here-stop-at all Foreign (imports c))) (sym (eqs x (self x) h all n) ∙ p)
+      same-of w text (record { host = h; all = all; first = n }) t (stopAt Foreign) e eqs (body-here (record { host = h; all = all; first = n }) (w .faults) t (esc t) (here-stop-at (record { host = h; all = all; first = n }) Foreign (imports c))) (sym (eqs x (self x) h all n) ∙ p)
 
 asked : {C : Type 0} → NoHost [] → C
 asked d = go d refl
@@ -330,6 +334,6 @@ asked d = go d refl
 pub lawful : LawsOfStops
 lawful w text h all n = record { takes = taken-law w text h all n; spans = span-first w text h all n; stops = stop-law w text h all n; alike = go }
   where
-    go : (e : ℕ) (ts : List Token) (f : Fault) → NoHost ts → item w text h all n e ts ≡ stop f → SameStop w text all e ts f
+    go : (e : ℕ) (ts : List Token) (f : Fault) → NoHost ts → item w text h all n e ts ≡ stop f → SameStop w text (record { host = h; all = all; first = n }) e ts f
     go e [] f d p = asked d
     go e (t ∷ x) f d p = alike-law w text t h all n e x f d p

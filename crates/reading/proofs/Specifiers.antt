@@ -1,6 +1,6 @@
 -- Specifiers of imports and exports.
-use mathlib.Core.Path.{_≡_, refl, sym, ap, subst, _∙_}
-use mathlib.Core.Bool.{Bool, true, false, not, _&&_, _||_, cond}
+use mathlib.Core.Path.{_≡_, refl, ap}
+use mathlib.Core.Bool.{Bool, true, false, not, cond}
 use mathlib.Core.List.{List, [], _∷_}
 use mathlib.Core.Logic.{_⊎_, inl, inr}
 use Prim.Native.Nat.{ℕ, _≤_}
@@ -11,19 +11,17 @@ use Rattle.kinds.specs.declared.kind.Kind.the-variants.{Str, Eof, Undetermined,
 use Rattle.kinds.specs.Numbers.{same}
 use Rattle.kinds.specs.Classes.{isIdentifierName, isIdentifier, isReserved}
 use Rattle.lexer.specs.declared.token.Token.{Token}
-use Rattle.pages.specs.declared.fault.Fault.{Fault}
 use Rattle.pages.specs.declared.fault.FaultKind.the-variants.{ImportString, ImportReserved}
 use Rattle.pages.specs.declared.rows.Specifier.{Specifier}
 use Rattle.pages.specs.Faults.{faultAt}
 use Rattle.reading.specs.Ahead.{next, at}
 use Rattle.reading.specs.Readings.{specified}
-use Rattle.reading.specs.Grammar.{One, one, Word, L, N, ImportSpecifier, alone, renamed, ExportSpecifier, alone-out, renamed-out, Braces}
-use Rattle.reading.specs.Steps.{Out, got, Reader}
+use Rattle.reading.specs.Grammar.{one, Word, L, N, ImportSpecifier, alone, renamed, ExportSpecifier, alone-out, renamed-out, Braces}
 use Rattle.reading.specs.Braces.{closes, braced}
 use Rattle.reading.specs.Imports.{local, alias, specifier}
 use Rattle.reading.specs.Exports.{exportSpecifier}
 use Rattle.reading.specs.Main.{Cleanly}
-use Rattle.reading.proofs.Clean.{Right, took, takes, bound-of, binds, tested, passes, fails, done, ends, added, adds, faulty, clash}
+use Rattle.reading.proofs.Clean.{took, takes, bound-of, binds, tested, passes, fails, done, ends, added, adds, faulty, clash}
 use Rattle.reading.proofs.OfKinds.{same-is, seen, name-is-not, one-as, one-is, name-right, as-right, close-right, word-at}
 use Rattle.reading.proofs.Lists.{Follow, braced-sound, braced-complete}
 

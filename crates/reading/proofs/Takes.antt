@@ -1,12 +1,12 @@
 -- Elements take at least one token.
-use mathlib.Core.Path.{_≡_, refl, sym, ap, subst, _∙_}
+use mathlib.Core.Path.{_≡_, refl, subst}
 use mathlib.Core.Bool.{Bool, true, false}
-use mathlib.Core.List.{List, [], _∷_, _++_}
+use mathlib.Core.List.{List, [], _∷_}
 use Prim.Native.Nat.{ℕ, _≤_, _<_}
 use native.Mathlib.Omega.{arith}
 use lib.ListN.{length}
 use Rattle.kinds.specs.declared.kind.Kind.{Kind}
-use Rattle.kinds.specs.declared.kind.Kind.the-variants.{Eof, Str, As, Colon}
+use Rattle.kinds.specs.declared.kind.Kind.the-variants.{Str, As, Colon}
 use Rattle.kinds.specs.Numbers.{same}
 use Rattle.kinds.specs.Classes.{has, isReserved, isContextual, isStrict, isFuture, isKeyword, isIdentifierName}
 use Rattle.lexer.specs.declared.token.Token.{Token}
@@ -16,12 +16,10 @@ use Rattle.pages.specs.declared.fault.FaultKind.{FaultKind}
 use Rattle.pages.specs.declared.fault.FaultKind.the-variants.{Expected, Unexpected, NoString}
 use Rattle.reading.specs.Ahead.{next, rest, at}
 use Rattle.reading.specs.Steps.{Out, stop, got, Reader, stopAt, add, bind, test, esc, token, none, word, str, identifier, name}
-use Rattle.reading.specs.Braces.{TakesOne}
 use Rattle.reading.specs.Attributes.{key, attribute}
 use Rattle.reading.specs.Imports.{local, alias, specifier}
 use Rattle.reading.specs.Exports.{exportSpecifier}
 use Rattle.reading.specs.Main.{ElementsTakeOne}
-use Rattle.reading.proofs.Clean.{clash}
 use Rattle.reading.proofs.OfKinds.{seen}
 
 -- fewer than n tokens are left

@@ -1,11 +1,10 @@
 -- Whole modules.
 use mathlib.Core.Path.{_≡_, refl, sym, ap, subst, _∙_}
-use mathlib.Core.Bool.{Bool, true, false, not, _&&_, _||_}
+use mathlib.Core.Bool.{true, false}
 use mathlib.Core.List.{List, [], _∷_, _++_}
-use Prim.Native.Nat.{ℕ, zero, suc, _+_, _-_, _≤_, _<_}
+use Prim.Native.Nat.{ℕ, zero, suc, _+_, _-_, _≤_}
 use native.Mathlib.Omega.{arith}
-use lib.Dec.{leb}
-use lib.ListN.{length, take, drop}
+use lib.ListN.{length}
 use Rattle.std.specs.declared.result.Result.{Result}
 use Rattle.std.specs.declared.result.Result.the-variants.{Ok, Err}
 use Rattle.std.proofs.shelf.Tests.{and-left, le-leb}
@@ -13,17 +12,17 @@ use Rattle.kinds.specs.declared.kind.Kind.the-variants.{Import, Export}
 use Rattle.lexer.specs.declared.token.Token.{Token}
 use Rattle.pages.specs.declared.fault.Fault.{Fault}
 use Rattle.pages.specs.declared.fault.FaultKind.the-variants.{Full}
-use Rattle.reading.specs.Ahead.{next, at, importFollows}
+use Rattle.reading.specs.Ahead.{at, importFollows}
 use Rattle.reading.specs.Settings.{Setting}
 use Rattle.reading.specs.Hosts.{Host}
-use Rattle.reading.specs.Readings.{Clause, stated, Item, upto, Fits, AllFit, specifiersIn, namesIn, attributesIn, joined}
+use Rattle.reading.specs.Readings.{Clause, Item, upto, Fits, AllFit, specifiersIn, namesIn, attributesIn, joined}
 use Rattle.reading.specs.Grammar.{Word, ItemClause, an-import, an-export, a-statement, Items, no-items, an-item, Module}
-use Rattle.reading.specs.Steps.{Out, stop, got, Reader, add, bind, test, stopAt, crowded, ending}
+use Rattle.reading.specs.Steps.{Out, stop, got, Reader, add, bind, stopAt, crowded, ending}
 use Rattle.reading.specs.Attributes.{attributes}
 use Rattle.reading.specs.Imports.{form, importing}
-use Rattle.reading.specs.Exports.{exportClause, exporting}
+use Rattle.reading.specs.Exports.{exporting}
 use Rattle.reading.specs.Items.{statedBy, clause, item, items, readAll}
-use Rattle.reading.specs.Main.{Cleanly, Exact, Exactly, OneReading, Splits, NoneEmpty, ExactlyItems}
+use Rattle.reading.specs.Main.{Cleanly, Exactly, OneReading, Splits, ExactlyItems, Clean, Fitting, pagesOf}
 use Rattle.reading.proofs.Clean.{took, takes, bound-of, binds, tested, passes, fails, stopped, stopped-at, done, ends}
 use Rattle.reading.proofs.OfKinds.{import-right, export-right, word-at}
 use Rattle.reading.proofs.Forms.{form-sound, form-complete}
@@ -79,15 +78,15 @@ module _ (w : Setting) (text : List ℕ) (h : Host) (all : List Token) where
       export-complete w text h all (n + 1) e₁ c q))
   clause-complete n e (a-statement i x q) u = fails _ i (fails _ x (rw q ends))
 
-  data Reads (n : ℕ) (ts : List Token) : Item → List Token → Type 0 where
+  pub data Reads (n : ℕ) (ts : List Token) : Item → List Token → Type 0 where
     reads : {c : Clause} {rest : List Token} → ItemClause text h all n ts c rest → Fits w c → Reads n ts (record { tokens = upto ts rest; clause = c }) rest
 
-  item-sound : (n e : ℕ) (t : Token) (ts : List Token) {i : Item} {rest : List Token} → Cleanly (item w text h all n e (t ∷ ts)) i rest → Reads n (t ∷ ts) i rest
+  pub item-sound : (n e : ℕ) (t : Token) (ts : List Token) {i : Item} {rest : List Token} → Cleanly (item w text h all n e (t ∷ ts)) i rest → Reads n (t ∷ ts) i rest
   unfolding item
   item-sound n e t ts y = bound-of (clause w text h all n e (t ∷ ts)) (uncrowded (w .faults) _ y) λ c e₁ m z y₁.
       let r = clause-sound n e t ts z in done (Reads n (t ∷ ts)) y₁ (λ _. reads (r .0) (r .1))
 
-  item-complete : (n e : ℕ) {ts : List Token} {c : Clause} {rest : List Token} → ItemClause text h all n ts c rest → Fits w c
+  pub item-complete : (n e : ℕ) {ts : List Token} {c : Clause} {rest : List Token} → ItemClause text h all n ts c rest → Fits w c
       → Cleanly (item w text h all n e ts) (record { tokens = upto ts rest; clause = c }) rest
   unfolding item
   item-complete n e c q = clean-fits (w .faults) (binds _ (clause-complete n e c q) λ e₁. ends)
@@ -96,7 +95,7 @@ module _ (w : Setting) (text : List ℕ) (h : Host) (all : List Token) where
   abbrev Run : ℕ → List Token → List Item → List Token → Type 0
   Run n ts is rest = Items text h all n ts is rest × AllFit w is
 
-  after : {n : ℕ} {ts m rest : List Token} {i : Item} {is : List Item} → Reads n ts i m → Run (n + length (i .tokens)) m is rest → Run n ts (i ∷ is) rest
+  pub after : {n : ℕ} {ts m rest : List Token} {i : Item} {is : List Item} → Reads n ts i m → Run (n + length (i .tokens)) m is rest → Run n ts (i ∷ is) rest
   after (reads c q) d = (an-item c (d .0), (q, d .1))
 
   items-sound : (room n e : ℕ) (ts : List Token) {is : List Item} {rest : List Token} → Cleanly (items w text h all room n e ts) is rest → Run n ts is rest
@@ -168,12 +167,28 @@ full : (w : Setting) (text : List ℕ) (h : Host) (ts : List Token) (is : List I
 unfolding readAll
 full w text h ts is d f = items-complete w text h ts (length ts) 0 0 ts d f (omega arith)
 
-pub exact : Exactly
+to-end : (w : Setting) (text : List ℕ) (h : Host) (ts : List Token) (is : List Item) (fs : List Fault) (e : ℕ) (m : List Token) → readAll w text h ts ≡ got is fs e m → m ≡ []
 unfolding readAll
+to-end w text h ts is fs e m p = at-end w text h ts (readAll w text h ts) (items-end w text h ts (length ts) 0 0 ts) p
+
+read-sound : (w : Setting) (text : List ℕ) (h : Host) (ts : List Token) (is : List Item) → Cleanly (readAll w text h ts) is [] → Module text h ts is × AllFit w is
+unfolding readAll
+read-sound w text h ts is y = items-sound w text h ts (length ts) 0 0 ts y
+
+has : (w : Setting) (text : List ℕ) (h : Host) (ts : List Token) → Clean (readAll w text h ts) → Fitting w text h ts
+has w text h ts c =
+    let z : c .left ≡ [] = to-end w text h ts (c .value) [] (c .is .past) (c .left) (c .is .is) in
+    let y = read-sound w text h ts (c .value) (record { past = c .is .past; is = c .is .is ∙ ap (λ m. got (c .value) [] (c .is .past) m) z }) in
+    record { items = c .value; reading = y .0; fits = y .1 }
+
+pub exact : Exactly
 exact text h ts = record {
-  sound = λ w is y. items-sound w text h ts (length ts) 0 0 ts y;
+  has-reading = λ w c. has w text h ts c;
+  is-clean = λ w f. record { value = f .items; left = []; is = full w text h ts (f .items) (f .reading) (f .fits) };
+  pages = λ w f. ap pagesOf (full w text h ts (f .items) (f .reading) (f .fits) .is);
+  sound = λ w is y. read-sound w text h ts is y;
   complete = λ w is d f. full w text h ts is d f;
-  to-the-end = λ w is fs e m p. at-end w text h ts (readAll w text h ts) (items-end w text h ts (length ts) 0 0 ts) p;
+  to-the-end = λ w is fs e m p. to-end w text h ts is fs e m p;
 }
 
 clause-of : {w : Setting} {text : List ℕ} {h : Host} {all : List Token} {n : ℕ} {ts rest : List Token} {i : Item}

@@ -1,5 +1,5 @@
 -- Reading attributes.
-use mathlib.Core.Bool.{Bool, cond}
+use mathlib.Core.Bool.{cond}
 use mathlib.Core.List.{List, [], _∷_, _++_}
 use Prim.Native.Nat.{ℕ}
 use Rattle.std.specs.shelf.Text.{sameBytes}
@@ -13,7 +13,7 @@ use Rattle.pages.specs.Faults.{faultWith}
 use Rattle.reading.specs.Ahead.{next, at, attributesFollow}
 use Rattle.reading.specs.Settings.{Setting}
 use Rattle.reading.specs.Readings.{attributed}
-use Rattle.reading.specs.Steps.{Out, got, Reader, add, bind, test, word, str, identifier}
+use Rattle.reading.specs.Steps.{got, Reader, add, bind, test, word, str, identifier}
 use Rattle.reading.specs.Braces.{braced}
 
 -- an identifier name or a string

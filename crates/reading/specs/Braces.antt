@@ -1,6 +1,6 @@
 -- The brace list, over any element: empty, or elements with Comma between them, a last Comma allowed.
 use mathlib.Core.Path.{_≡_}
-use mathlib.Core.Bool.{Bool, true, false, not, _||_}
+use mathlib.Core.Bool.{Bool, false, not, _||_}
 use mathlib.Core.List.{List, [], _∷_}
 use Prim.Native.Nat.{ℕ, zero, suc, _<_}
 use lib.ListN.{length}
@@ -12,7 +12,7 @@ use Rattle.pages.specs.declared.fault.Fault.{Fault}
 use Rattle.pages.specs.declared.fault.FaultKind.the-variants.{Unclosed, Full}
 use Rattle.pages.specs.Faults.{faultWith}
 use Rattle.reading.specs.Ahead.{spanHere, at}
-use Rattle.reading.specs.Steps.{Out, stop, got, Reader, stopAt, bind, test, word}
+use Rattle.reading.specs.Steps.{stop, got, Reader, stopAt, bind, test, word}
 
 -- An element takes at least one token.
 abbrev pub TakesOne : {A : Type 0} → Reader A → Type 0

@@ -1,8 +1,8 @@
 -- Reading exports.
-use mathlib.Core.Bool.{Bool, cond}
+use mathlib.Core.Bool.{cond}
 use mathlib.Core.List.{List, [], _∷_, _++_}
 use Prim.Native.Nat.{ℕ, _+_, min}
-use lib.ListN.{length, take, drop}
+use lib.ListN.{take, drop}
 use Rattle.std.specs.declared.option.Option.{Option}
 use Rattle.std.specs.declared.option.Option.the-variants.{Some, None}
 use Rattle.std.specs.declared.result.Result.{Result}
@@ -10,7 +10,6 @@ use Rattle.std.specs.declared.result.Result.the-variants.{Ok, Err}
 use Rattle.std.specs.shelf.Maps.{nth}
 use Rattle.kinds.specs.declared.kind.Kind.the-variants.{As, From, Star, LCurly, RCurly, Default, Import, Export}
 use Rattle.lexer.specs.declared.token.Token.{Token}
-use Rattle.lexer.specs.declared.token.Span.{Span}
 use Rattle.lexer.specs.Tokens.{partOf}
 use Rattle.pages.specs.declared.fault.Fault.{Fault}
 use Rattle.pages.specs.declared.fault.FaultKind.the-variants.{Foreign, Full, ExportString, ExportReserved, SecondExport}

@@ -1,7 +1,7 @@
 -- The grammar of modules: `X ts a rest` says that ts begins with an X that reads as a, and that rest follows it.
 use mathlib.Core.Path.{_≡_}
-use mathlib.Core.Bool.{Bool, true, false}
-use mathlib.Core.List.{List, [], _∷_, map}
+use mathlib.Core.Bool.{true, false}
+use mathlib.Core.List.{List, [], _∷_}
 use mathlib.Core.Logic.{_⊎_}
 use Prim.Native.Nat.{ℕ, _+_}
 use lib.ListN.{length, take, drop}
@@ -12,7 +12,6 @@ use Rattle.kinds.specs.declared.kind.Kind.the-variants.{Eof, Str, Import, Expor
 use Rattle.kinds.specs.Classes.{isBinding, isIdentifier, isIdentifierName}
 use Rattle.lexer.specs.declared.token.Token.{Token}
 use Rattle.lexer.specs.Tokens.{partOf}
-use Rattle.pages.specs.declared.rows.Name.{Name}
 use Rattle.pages.specs.declared.rows.Specifier.{Specifier}
 use Rattle.pages.specs.declared.rows.Attribute.{Attribute}
 use Rattle.pages.specs.declared.page.Phase.the-variants as phase

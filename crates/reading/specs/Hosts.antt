@@ -6,7 +6,7 @@ use mathlib.Core.List.{List, [], _∷_}
 use Prim.Native.Nat.{ℕ, _+_, _≤_, _<_}
 use lib.ListN.{length}
 use Rattle.std.specs.declared.result.Result.{Result}
-use Rattle.std.specs.declared.result.Result.the-variants.{Ok, Err}
+use Rattle.std.specs.declared.result.Result.the-variants.{Ok}
 use Rattle.lexer.specs.declared.token.Token.{Token}
 use Rattle.reading.specs.declared.naming.Naming.{Naming}
 use Rattle.reading.specs.declared.naming.Naming.the-variants as naming

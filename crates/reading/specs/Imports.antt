@@ -1,5 +1,5 @@
 -- Reading imports. The reader goes further than the grammar, and draws faults there.
-use mathlib.Core.Bool.{Bool, _&&_, cond}
+use mathlib.Core.Bool.{_&&_, cond}
 use mathlib.Core.List.{List, [], _∷_}
 use Prim.Native.Nat.{ℕ, _-_}
 use Rattle.std.specs.declared.option.Option.{Option}
@@ -17,7 +17,7 @@ use Rattle.pages.specs.Faults.{faultAt}
 use Rattle.reading.specs.Ahead.{next, at}
 use Rattle.reading.specs.Settings.{Setting}
 use Rattle.reading.specs.Readings.{specified, Starred, Form, Clause, imported}
-use Rattle.reading.specs.Steps.{Out, got, Reader, stopAt, add, bind, test, esc, word, str, binding, name, ending}
+use Rattle.reading.specs.Steps.{got, Reader, stopAt, add, bind, test, esc, word, str, binding, name, ending}
 use Rattle.reading.specs.Braces.{braced}
 use Rattle.reading.specs.Attributes.{attributes}
 

@@ -1,15 +1,16 @@
 -- What is shown of reading: it reads without a stop and without a fault exactly what the grammar has, and in one way.
 use mathlib.Core.Path.{_≡_}
-use mathlib.Core.List.{List, [], _∷_, _++_}
+use mathlib.Core.List.{List, [], _∷_, map}
 use Prim.Native.Nat.{ℕ, _≤_}
 use lib.ListN.{length}
 use Rattle.lexer.specs.declared.token.Token.{Token}
 use Rattle.pages.specs.declared.fault.Fault.{Fault}
+use Rattle.pages.specs.Contents.{Content}
 use Rattle.reading.specs.Settings.{Setting}
 use Rattle.reading.specs.Hosts.{Host}
-use Rattle.reading.specs.Readings.{Clause, Item, Fits, AllFit, upto, joined}
+use Rattle.reading.specs.Readings.{Clause, Item, Fits, AllFit, contentOf, upto, joined}
 use Rattle.reading.specs.Grammar.{ItemClause, Module}
-use Rattle.reading.specs.Steps.{Out, got}
+use Rattle.reading.specs.Steps.{Out, stop, got}
 use Rattle.reading.specs.Braces.{TakesOne}
 use Rattle.reading.specs.Attributes.{attribute}
 use Rattle.reading.specs.Imports.{specifier}
@@ -21,13 +22,35 @@ pub record Cleanly {A : Type 0} (o : Out A) (a : A) (rest : List Token) : Type 0
   pub past : ℕ
   pub is : o ≡ got a [] past rest
 
+-- no stop and no fault
+pub record Clean {A : Type 0} (o : Out A) : Type 0 where
+  pub value : A
+  pub left : List Token
+  pub is : Cleanly o value left
+
+-- a reading that fits the tables of the pages
+pub record Fitting (w : Setting) (text : List ℕ) (h : Host) (ts : List Token) : Type 0 where
+  pub items : List Item
+  pub reading : Module text h ts items
+  pub fits : AllFit w items
+
+-- the pages of what was read
+abbrev pub pagesOf : Out (List Item) → List Content
+pagesOf (stop f) = []
+pagesOf (got is fs e m) = map contentOf is
+
 -- no item is empty
 abbrev pub NoneEmpty : List Item → Type 0
 NoneEmpty [] = Unit {0}
 NoneEmpty (i ∷ is) = (1 ≤ length (i .tokens)) × NoneEmpty is
 
--- reading is exact: what is read cleanly is a reading that fits the tables of the pages, and the other way round
+-- Reading is exact: it gives no stop and no fault exactly where there is a reading that fits, and the pages are then
+-- those of its items.
 pub record Exact (text : List ℕ) (h : Host) (ts : List Token) : Type 0 where
+  pub has-reading : (w : Setting) → Clean (readAll w text h ts) → Fitting w text h ts
+  pub is-clean : (w : Setting) → Fitting w text h ts → Clean (readAll w text h ts)
+  pub pages : (w : Setting) (f : Fitting w text h ts) → pagesOf (readAll w text h ts) ≡ map contentOf (f .items)
+  -- and what is read is that reading
   pub sound : (w : Setting) (is : List Item) → Cleanly (readAll w text h ts) is [] → Module text h ts is × AllFit w is
   pub complete : (w : Setting) (is : List Item) → Module text h ts is → AllFit w is → Cleanly (readAll w text h ts) is []
   -- reading ends, unless by a stop, at the end only

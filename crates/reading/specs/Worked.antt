@@ -12,7 +12,6 @@ use Rattle.kinds.specs.declared.kind.Kind.{Kind}
 use Rattle.kinds.specs.declared.kind.Kind.the-variants.{As, Assert, Class, Colon, Comma, Decimal, Default, Defer, Dot, Eq, Export, For, From, Function, Ident, If, Import, LCurly, LParen, Let, Plus, RCurly, RParen, Semicolon, Source, Star, Static, Str, With}
 use Rattle.lexer.specs.declared.token.Token.{Token}
 use Rattle.lexer.specs.declared.token.Span.{Span}
-use Rattle.lexer.specs.declared.token.Part.{Part}
 use Rattle.pages.specs.declared.fault.Fault.{Fault}
 use Rattle.pages.specs.declared.fault.FaultKind.the-variants.{Expected, Unexpected, Unclosed, Unended, NoString, LoneName, Foreign, Full, EscapedKeyword, DeferBraces, DeferDefault, SourceForm, ImportString, ImportReserved, ExportString, ExportReserved, SecondExport, RepeatedKey}
 use Rattle.pages.specs.declared.rows.Name.{Name}

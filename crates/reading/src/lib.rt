@@ -3,6 +3,7 @@
 ghost use Rattle.reading.specs.Laws.{LawsOfStops};
 ghost use Rattle.reading.specs.Limits.{Limits};
 ghost use Rattle.reading.specs.Main.{Exactly, ExactlyItems, OneReading, Splits, ElementsTakeOne};
+ghost use Rattle.reading.specs.Runs.{ExactlyRuns};
 ghost use Rattle.reading.specs.Worked.{Worked, Exported};
 
 pub mod naming;
@@ -18,6 +19,13 @@ pub fn reading_is_exact() -> u8
 // The same of one item: a page without faults belongs to a clause of the grammar.
 pub fn items_are_exact() -> u8
     ensures { λ _. ⌜ ExactlyItems ⌝ }
+{
+    0
+}
+
+// The same of a run of items, as far as it goes; and a run to the end is the reading of the whole list.
+pub fn runs_are_exact() -> u8
+    ensures { λ _. ⌜ ExactlyRuns ⌝ }
 {
     0
 }

@@ -58,7 +58,7 @@ module _ (text : List ℕ) (is : List ImportRow) (e : ExportRow) where
   by-taken r q taken.AllButDefault h = star r q h
   by-taken r q taken.All h = sourced r q (λ g. let z : _≡_ {A = ℕ} 0 1 = cc in omega arith)
   by-taken r q taken.Absent h = sourced r q (λ g. let z : _≡_ {A = ℕ} 0 1 = cc in omega arith)
-  by-taken r q taken.Default h = sourced r q (λ g. let z : _≡_ {A = ℕ} 0 1 = cc in omega arith)
+  by-taken r q (taken.Default s) h = sourced r q (λ g. let z : _≡_ {A = ℕ} 0 1 = cc in omega arith)
   by-taken r q (taken.Name n) h = sourced r q (λ g. let z : _≡_ {A = ℕ} 0 1 = cc in omega arith)
 
   by-handed : (n : NameSpan) (i : ImportRow) → e .request ≡ None → e .local ≡ local.Name n → First text (n .text) is i

@@ -193,7 +193,7 @@ module _ (text : List ℕ) where
   by-taken : (w : ExportRow) (t : ExportImport) → entryOf (byTaken w t) ≡ sortTaken (exportEntryOf text w) (takenText text t)
   by-taken w taken.Absent = refl
   by-taken w (taken.Name n) = refl
-  by-taken w taken.Default = refl
+  by-taken w (taken.Default s) = refl
   by-taken w taken.All = refl
   by-taken w taken.AllButDefault = refl
 

@@ -47,8 +47,8 @@ abbrev pub handed : ImportName → Phase → Option ExportImport
 handed imported.Namespace p = None
 handed (imported.Name n) p = Some (taken.Name n)
 handed (imported.Default s) phase.Source = None
-handed (imported.Default s) phase.Evaluation = Some taken.Default
-handed (imported.Default s) phase.Defer = Some taken.Default
+handed (imported.Default s) phase.Evaluation = Some (taken.Default s)
+handed (imported.Default s) phase.Defer = Some (taken.Default s)
 
 -- the row of an export that hands on an import
 abbrev pub handedRow : ExportRow → ImportRow → ExportImport → ExportRow
@@ -72,7 +72,7 @@ abbrev pub byTaken : ExportRow → ExportImport → Settled
 byTaken row taken.AllButDefault = settled.Star row
 byTaken row taken.All = settled.Indirect row
 byTaken row taken.Absent = settled.Indirect row
-byTaken row taken.Default = settled.Indirect row
+byTaken row (taken.Default s) = settled.Indirect row
 byTaken row (taken.Name n) = settled.Indirect row
 
 abbrev pub byRequest : List ℕ → List ImportRow → ExportRow → Option NameSpan → Settled

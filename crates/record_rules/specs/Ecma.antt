@@ -204,7 +204,7 @@ requestText text (Some r) = Some (partOf text (r .text))
 abbrev pub takenText : List ℕ → ExportImport → Taken
 takenText text taken.Absent = null
 takenText text (taken.Name n) = string (partOf text (n .text))
-takenText text taken.Default = string (codes "default")
+takenText text (taken.Default s) = string (codes "default")
 takenText text taken.All = all
 takenText text taken.AllButDefault = all-but-default
 

@@ -112,8 +112,8 @@ pub enum ExportImport {
     Absent,
     // the export of this name
     Name(NameSpan),
-    // the default export
-    Default,
+    // the default export; the span is that of the import's specifier
+    Default(Span),
     // the namespace object: `export * as name from`
     All,
     // every export but the default: `export * from`

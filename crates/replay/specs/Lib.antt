@@ -3,3 +3,4 @@ pub mod Hex
 pub mod Rules
 pub mod Shown
 pub mod Scores
+pub mod Words

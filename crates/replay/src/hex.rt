@@ -7,6 +7,7 @@ ghost use Rattle.std.specs.Vec.{made};
 ghost use Rattle.replay.specs.Hex.{digit, digits, written};
 use std::alloc::Global;
 use std::error::AnyError;
+use std::fmt;
 
 // The value of a lower-case digit.
 pub fn value(code: u8) -> Option<u8>
@@ -50,5 +51,21 @@ fn byte_of(high: u8, low: u8) -> Result<u8, AnyError>
     match (value(high), value(low)) {
         (Some(h), Some(l)) => Ok(h * 16 + l),
         _ => Err("a byte that is no lower-case hexadecimal digit".into()),
+    }
+}
+
+// Bytes as a field: two digits each, or - for none.
+#[derive(Clone, Copy)]
+pub struct Hex<'a>(pub &'a [u8]);
+
+pub impl fmt::Display for Hex<'_> as HexDisplay {
+    fn fmt<W: fmt::Write>(&self, f: &mut fmt::Formatter<W>) -> fmt::Result {
+        if self.0.is_empty() {
+            return write!(f, "-");
+        }
+        for byte in self.0 {
+            write!(f, "{byte:02x}")?;
+        }
+        Ok(())
     }
 }

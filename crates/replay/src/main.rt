@@ -2,12 +2,17 @@
 mod block;
 mod difference;
 mod ends;
+mod fields;
 mod hex;
 mod input;
+mod items;
 mod lines;
+mod lists;
+mod page_lines;
 mod replay;
 mod tally;
 mod tokens;
+mod words;
 
 use crate::replay::replay_file;
 use crate::tally::Tally;
@@ -19,7 +24,8 @@ const HELP: &str = "\
 usage: replay FILE..
 
 Reads the modules of each vector file FILE, or of standard input where FILE is -, and
-compares what the library makes of a module's bytes and text with the lines of its block.
+compares what the library makes of a module's bytes and text, and of its pages, with the
+lines of its block.
 Says for each file how many modules agree and of what, and shows the first that do not.
 The status is 1 where one does not agree, and where a line cannot be read.";
 

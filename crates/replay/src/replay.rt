@@ -1,10 +1,12 @@
 // Vector files, block by block. A part of the answers is lines that the block has, lines that the library's answer is
 // written as, and a score: a further part is read in `Block::read`, and compared and counted in `replay_block`.
 use crate::block::Block;
+use crate::block::Outcome;
 use crate::difference::Difference;
 use crate::difference::first_difference;
 use crate::input::next_block;
 use crate::lines::Lines;
+use crate::lists::record_lines;
 use crate::tally::Tally;
 use crate::tokens::file_lines;
 use crate::tokens::table_lines;
@@ -68,6 +70,15 @@ fn replay_block(rt: &LibcRuntime, lines: &mut Lines, tally: &mut Tally) -> Resul
     if let Some(found) = table_lines(heap, bytes, text)? {
         let agrees = compare(rt, block.name, "token table", block.tokens.as_str(), found.as_str(), tally)?;
         tally.tables.count(agrees);
+    }
+    match &block.outcome {
+        Outcome::Stopped => tally.stop(),
+        Outcome::Refused => tally.refuse(),
+        Outcome::Read(answer) => {
+            let found = record_lines(heap, text, answer.pages.as_slice())?;
+            let agrees = compare(rt, block.name, "record", answer.record.as_str(), found.as_str(), tally)?;
+            tally.file(answer.page_lines, agrees);
+        }
     }
     Ok(())
 }

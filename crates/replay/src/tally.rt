@@ -1,6 +1,6 @@
 // How many modules agree, and of what.
 ghost use mathlib.Core.Path.{_≡_};
-ghost use Rattle.replay.specs.Scores.{plus, counted, joined, missed};
+ghost use Rattle.replay.specs.Scores.{counted, joined, missed, total, withModule, withRecord, withStop, withRefusal, allMissed};
 use std::fmt;
 
 // One part of the answers: how often it was compared, and how often it agreed.
@@ -54,43 +54,70 @@ pub struct Tally {
     // token lists from token files, and again from token tables
     pub lists: Score,
     pub tables: Score,
+    // records of the modules that are read to their end, and the lines of the pages that were filed into them
+    pub records: Score,
+    pub page_lines: usize,
+    // modules without a record: reading stopped, or stopped at a page that the record refuses
+    pub stopped: usize,
+    pub refused: usize,
     // lines that were not replayed
     pub later: usize,
 }
 
 impl Tally {
     pub fn new() -> Tally {
-        Tally { modules: 0, lists: Score::new(), tables: Score::new(), later: 0 }
+        let none = Score::new();
+        Tally { modules: 0, lists: none, tables: none, records: none, page_lines: 0, stopped: 0, refused: 0, later: 0 }
     }
 
     pub fn add(&mut self, more: &Tally)
-        ensures lists { λ _. ⌜ now (self .exit) .lists ≡ joined (now (self .entry) .lists) (now (more .entry) .lists) ⌝ }
-        ensures tables { λ _. ⌜ now (self .exit) .tables ≡ joined (now (self .entry) .tables) (now (more .entry) .tables) ⌝ }
-        ensures modules { λ _. ⌜ now (self .exit) .modules ≡ plus (now (self .entry) .modules) (now (more .entry) .modules) ⌝ }
-        ensures later { λ _. ⌜ now (self .exit) .later ≡ plus (now (self .entry) .later) (now (more .entry) .later) ⌝ }
+        ensures { λ _. ⌜ now (self .exit) ≡ total (now (self .entry)) (now (more .entry)) ⌝ }
     {
         self.modules = self.modules.saturating_add(more.modules);
         self.lists.add(more.lists);
         self.tables.add(more.tables);
+        self.records.add(more.records);
+        self.page_lines = self.page_lines.saturating_add(more.page_lines);
+        self.stopped = self.stopped.saturating_add(more.stopped);
+        self.refused = self.refused.saturating_add(more.refused);
         self.later = self.later.saturating_add(more.later);
     }
 
     // Counts a module and its lines that were not replayed.
     pub fn module(&mut self, later: usize)
-        ensures modules { λ _. ⌜ now (self .exit) .modules ≡ plus (now (self .entry) .modules) 1 ⌝ }
-        ensures later { λ _. ⌜ now (self .exit) .later ≡ plus (now (self .entry) .later) later ⌝ }
-        ensures lists { λ _. ⌜ now (self .exit) .lists ≡ now (self .entry) .lists ⌝ }
-        ensures tables { λ _. ⌜ now (self .exit) .tables ≡ now (self .entry) .tables ⌝ }
+        ensures { λ _. ⌜ now (self .exit) ≡ withModule (now (self .entry)) later ⌝ }
     {
         self.modules = self.modules.saturating_add(1);
         self.later = self.later.saturating_add(later);
     }
 
+    // Counts a record, and the lines of the pages that were filed into it.
+    pub fn file(&mut self, page_lines: usize, agrees: bool)
+        ensures { λ _. ⌜ now (self .exit) ≡ withRecord (now (self .entry)) «page_lines» agrees ⌝ }
+    {
+        self.page_lines = self.page_lines.saturating_add(page_lines);
+        self.records.count(agrees);
+    }
+
+    // Counts a module whose reading stopped.
+    pub fn stop(&mut self)
+        ensures { λ _. ⌜ now (self .exit) ≡ withStop (now (self .entry)) ⌝ }
+    {
+        self.stopped = self.stopped.saturating_add(1);
+    }
+
+    // Counts a module with a page that the record refuses.
+    pub fn refuse(&mut self)
+        ensures { λ _. ⌜ now (self .exit) ≡ withRefusal (now (self .entry)) ⌝ }
+    {
+        self.refused = self.refused.saturating_add(1);
+    }
+
     // How many parts did not agree.
     pub fn differences(&self) -> usize
-        ensures { λ r. ⌜ r ≡ plus (missed (now (self .entry) .lists)) (missed (now (self .entry) .tables)) ⌝ }
+        ensures { λ r. ⌜ r ≡ allMissed (now (self .entry)) ⌝ }
     {
-        self.lists.differences().saturating_add(self.tables.differences())
+        self.lists.differences().saturating_add(self.tables.differences()).saturating_add(self.records.differences())
     }
 }
 
@@ -99,7 +126,13 @@ pub impl fmt::Display for Tally as TallyDisplay {
         let modules = self.modules;
         let lists = self.lists;
         let tables = self.tables;
+        let records = self.records;
+        let lines = self.page_lines;
+        let stopped = self.stopped;
+        let refused = self.refused;
         let later = self.later;
-        write!(f, "{modules} modules, {lists} token lists agree, {tables} token tables agree, {later} lines not replayed")
+        write!(f, "{modules} modules, {lists} token lists agree, {tables} token tables agree, ")?;
+        write!(f, "{records} records agree ({lines} lines of pages read; no record: {stopped} stopped, {refused} at a refused page), ")?;
+        write!(f, "{later} lines not replayed")
     }
 }

@@ -1,5 +1,0 @@
-use Rattle.replay.proofs.Shorter.{line-shorter}
-use Rattle.replay.proofs.block.pass_later.Needs as need
-
-pub loop-line-less : need.loop-line-less
-loop-line-less c = line-shorter _ _ _ (c .in-Some .ensures tt)
