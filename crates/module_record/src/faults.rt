@@ -123,7 +123,7 @@ fn note_several(faults: &mut Table<Fault, 383>, text: &[u8], exports: &ExportLis
 }
 
 // All that is wrong at the close.
-pub fn find_faults(text: &[u8], names: &[NameSpan], exports: &ExportLists, skipped: &[Span]) -> Table<Fault, 383>
+pub(crate) fn find_faults(text: &[u8], names: &[NameSpan], exports: &ExportLists, skipped: &[Span]) -> Table<Fault, 383>
     requires { ⌜ (length (now names) ≤ 128) × (length (now skipped) ≤ 128) × (length (items (now exports .local)) + length (items (now exports .indirect)) ≤ 128) ⌝ }
     ensures { λ r. ⌜ items r ≡ repeats (now (text .entry)) (now (names .entry)) ++ several (allDefaults (now (text .entry)) (lists (now (exports .entry))) (now (skipped .entry))) ⌝ }
 {

@@ -6,13 +6,13 @@ ghost use Rattle.record_rules.specs.Filing.{readsDefault};
 use lexer::token::Part;
 
 // Whether two parts have the same text.
-pub fn same_text(text: &[u8], a: Part, b: Part) -> bool
+pub(crate) fn same_text(text: &[u8], a: Part, b: Part) -> bool
     ensures { λ r. ⌜ r ≡ sameText (now (text .entry)) a b ⌝ }
 {
     a.of(text) == b.of(text)
 }
 
-pub fn reads_default(text: &[u8], part: Part) -> bool
+pub(crate) fn reads_default(text: &[u8], part: Part) -> bool
     ensures { λ r. ⌜ r ≡ readsDefault (now (text .entry)) part ⌝ }
 {
     let word: &[u8] = b"default";
