@@ -26,6 +26,11 @@ ruleNumber OtherMark = 3
 ruleNumber BadEnd = 4
 ruleNumber OutsideText = 5
 
+abbrev pub endingNumber : Ending → ℕ
+endingNumber (AtEof n) = 0
+endingNumber (AtEnd n) = 1
+endingNumber (AtBad n b) = 2
+
 -- a token, or the rule that is broken
 abbrev pub Entry : Type 0
 Entry = Result Token Broken

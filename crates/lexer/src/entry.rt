@@ -1,6 +1,6 @@
 // Entries: the rows of a token table and the records of a token file. Each is a token, or bad by a rule.
 ghost use mathlib.Core.Path.{_≡_};
-ghost use Rattle.lexer.specs.Entries.{ruleNumber, readAs};
+ghost use Rattle.lexer.specs.Entries.{ruleNumber, endingNumber, readAs};
 use crate::token::Token;
 
 // The rule that a bad entry breaks. Of several, the first in this order.
@@ -42,6 +42,19 @@ pub enum Ending {
     AtEnd(usize),
     // with a bad entry, which reads as one last token
     AtBad(usize, Broken),
+}
+
+impl Ending {
+    // The ending's number, from 0 to 2.
+    pub fn number(self) -> u8
+        ensures { λ r. ⌜ r ≡ endingNumber self ⌝ }
+    {
+        match self {
+            Ending::AtEof(_) => 0,
+            Ending::AtEnd(_) => 1,
+            Ending::AtBad(_, _) => 2,
+        }
+    }
 }
 
 // What an entry reads as.

@@ -1,5 +1,6 @@
 // The rows of the module record.
 ghost use mathlib.Core.Path.{_≡_};
+ghost use Rattle.record_rules.specs.Numbers.{importNumber, clauseNumber, takenNumber, exportedNumber, localNumber, listNumber};
 ghost use Rattle.record_rules.specs.Rows.{nameSpan, moduleName, importName, importRow, requestRow, allRow, fromRow, bracesRow, declaredRow, defaultRow, localOf};
 use lexer::token::Part;
 use lexer::token::Span;
@@ -247,4 +248,78 @@ pub enum Settled {
     Local(ExportRow),
     Indirect(ExportRow),
     Star(ExportRow),
+}
+
+// The numbers of these enums.
+impl ImportName {
+    pub fn number(self) -> u8
+        ensures { λ r. ⌜ r ≡ importNumber self ⌝ }
+    {
+        match self {
+            ImportName::Name(_) => 0,
+            ImportName::Namespace => 1,
+            ImportName::Default(_) => 2,
+        }
+    }
+}
+
+impl Clause {
+    pub fn number(self) -> u8
+        ensures { λ r. ⌜ r ≡ clauseNumber self ⌝ }
+    {
+        match self {
+            Clause::Import => 0,
+            Clause::Export => 1,
+        }
+    }
+}
+
+impl ExportImport {
+    pub fn number(self) -> u8
+        ensures { λ r. ⌜ r ≡ takenNumber self ⌝ }
+    {
+        match self {
+            ExportImport::Absent => 0,
+            ExportImport::Name(_) => 1,
+            ExportImport::Default(_) => 2,
+            ExportImport::All => 3,
+            ExportImport::AllButDefault => 4,
+        }
+    }
+}
+
+impl ExportName {
+    pub fn number(self) -> u8
+        ensures { λ r. ⌜ r ≡ exportedNumber self ⌝ }
+    {
+        match self {
+            ExportName::Absent => 0,
+            ExportName::Name(_) => 1,
+            ExportName::Default(_) => 2,
+        }
+    }
+}
+
+impl LocalName {
+    pub fn number(self) -> u8
+        ensures { λ r. ⌜ r ≡ localNumber self ⌝ }
+    {
+        match self {
+            LocalName::Absent => 0,
+            LocalName::Name(_) => 1,
+            LocalName::Default(_) => 2,
+        }
+    }
+}
+
+impl Settled {
+    pub fn number(self) -> u8
+        ensures { λ r. ⌜ r ≡ listNumber self ⌝ }
+    {
+        match self {
+            Settled::Local(_) => 0,
+            Settled::Indirect(_) => 1,
+            Settled::Star(_) => 2,
+        }
+    }
 }
