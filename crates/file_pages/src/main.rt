@@ -1,5 +1,7 @@
 // Files the pages of some sample modules and prints the records that they close to, and then how much a record
 // holds.
+#![tactic(auto)]
+
 mod build;
 mod limits;
 mod samples;

@@ -1,6 +1,8 @@
 -- The kinds by number.
 use Rattle.std.specs.Prelude.{◌≡◌, ℕ, Bool, List, [], ◌∷◌, get_or, Option, ◌==◌, slice_index_or, refl}
 use Rattle.std.proofs.Common.{sym, ap, ◌∙◌}
+use Rattle.std.specs.Cmp.{IsPartialEquivalence, partial_equiv_from_equiv}
+use Rattle.std.proofs.lemmas.Cmp.{nat_eq_equiv, on_equiv}
 use Rattle.std.specs.List.{slice_get}
 use Rattle.kinds.specs.declared.kind.Kind.{Kind}
 use Rattle.kinds.specs.declared.kind.Kind.TheVariants.{Eof, Undetermined, Skip, HashbangComment, Ident, Await, Break, Case, Catch, Class, Const, Continue, Debugger, Default, Delete, Do, Else, Enum, Export, Extends, Finally, For, Function, If, Import, In, Instanceof, New, Return, Super, Switch, This, Throw, Try, Typeof, Var, Void, While, With, Async, From, Get, Meta, Of, Set, Target, Accessor, Source, Defer, Abstract, As, Asserts, Assert, Any, Boolean, Constructor, Declare, Infer, Intrinsic, Is, KeyOf, Module, Namespace, Never, Out, Readonly, Require, Number, Object, Satisfies, String, Symbol, «Type», Undefined, Unique, Using, Unknown, Global, BigInt, Override, Implements, Interface, Let, Package, Private, Protected, Public, Static, Yield, True, False, Null, Amp, Amp2, Amp2Eq, AmpEq, Bang, Caret, CaretEq, Colon, Comma, Dot, Dot3, Eq, Eq2, Eq3, GtEq, LAngle, LBrack, LCurly, LParen, LtEq, Minus, Minus2, MinusEq, Neq, Neq2, Percent, PercentEq, Pipe, Pipe2, Pipe2Eq, PipeEq, Plus, Plus2, PlusEq, Question, Question2, Question2Eq, QuestionDot, RAngle, RBrack, RCurly, RParen, Semicolon, ShiftLeft, ShiftLeftEq, ShiftRight, ShiftRight3, ShiftRight3Eq, ShiftRightEq, Slash, SlashEq, Star, Star2, Star2Eq, StarEq, Tilde, Arrow, Decimal, Float, Binary, Octal, Hex, PositiveExponential, NegativeExponential, DecimalBigInt, BinaryBigInt, OctalBigInt, HexBigInt, Str, RegExp, NoSubstitutionTemplate, TemplateHead, TemplateMiddle, TemplateTail, PrivateIdentifier, JSXText, At}
@@ -203,6 +205,11 @@ kind_at n = slice_get kinds n
 -- whether two kinds are one
 unfoldable pub same : Kind → Kind → Bool
 same a b = number a == number b
+
+-- what `==` owes to those who use it
+pub same_laws : IsPartialEquivalence same
+unfolding same
+same_laws = partial_equiv_from_equiv (on_equiv number nat_eq_equiv)
 
 -- A kind stands in the list at its number.
 pub back : (k : Kind) → slice_index_or kinds (number k) Eof ≡ k

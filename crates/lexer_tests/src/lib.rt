@@ -1,4 +1,6 @@
 // Tests of the two token sources on sound and damaged input.
+#![tactic(auto)]
+
 #[cfg(test)]
 mod files;
 #[cfg(test)]

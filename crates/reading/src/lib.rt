@@ -1,5 +1,7 @@
 // What reading a module means: a definition of reading, the grammar, and theorems between them. All of it stands in
 // the specifications; the functions here have the theorems as contracts, and compute nothing.
+#![tactic(auto)]
+
 ghost use Rattle.reading.specs.Laws.{LawsOfStops};
 ghost use Rattle.reading.specs.Limits.{Limits};
 ghost use Rattle.reading.specs.Main.{Exactly, ExactlyItems, OneReading, Splits, ElementsTakeOne};

@@ -1,4 +1,6 @@
 // Replays vectors: modules with the answers that the library has to give, held against those that it gives.
+#![tactic(auto)]
+
 mod block;
 mod difference;
 mod ends;

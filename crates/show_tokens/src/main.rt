@@ -1,4 +1,6 @@
 // Takes token files apart: every token, and where and why each list of tokens ends.
+#![tactic(auto)]
+
 mod show;
 
 use crate::show::show;

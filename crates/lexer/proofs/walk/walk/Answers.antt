@@ -3,6 +3,7 @@ use Rattle.lexer.specs.Entries.{is_eof}
 use Rattle.lexer.proofs.Passing.{none_here, one_here, placed_from, placed_first, placed_end, placed_more, one_more}
 use Rattle.lexer.proofs.walk.walk.Given.{Over}
 use Rattle.lexer.proofs.walk.walk.Goals as goal
+use Rattle.lexer.proofs.walk.walk.Goals.{After-after-place}
 
 pub loop-token-init : goal.loop-token-init
 loop-token-init g c =
@@ -17,7 +18,7 @@ returns-then-eq g c =
     ∙ c.loop-token.invariant
 
 -- where the loop goes on there is a token
-goes : (g : Over) (c : goal.After-after-place g) → g.S.Source.number_at c.args.source.now c.loop-token.place < length (g.S.Source.tokens c.args.source.now)
+goes : (g : Over) (c : After-after-place g) → g.S.Source.number_at c.args.source.now c.loop-token.place < length (g.S.Source.tokens c.args.source.now)
 goes g c = one_here _ (g.S.Source.alive c.args.source.now) _ (sym (ap is_eof c.look-token.ensures) ∙ sym c.if-eq.ensures)
 
 pub loop-token-smaller : goal.loop-token-smaller
@@ -26,4 +27,4 @@ loop-token-smaller g c = let h = goes g c in omega (arith, c.after-place.ensures
 pub loop-token-preserved : goal.loop-token-preserved
 loop-token-preserved g c =
     let e = placed_more _ _ _ (g.S.Source.orderly c.args.source.now) c.loop-token.place c.look-token.result c.after-place.result c.look-token.ensures (goes g c) c.after-place.ensures in
-    one_more _ _ _ _ _ _ c.in-ok-push.ensures.items e c.loop-token.invariant
+    one_more _ _ _ _ _ _ c.in_ok-push.ensures.items e c.loop-token.invariant

@@ -5,19 +5,19 @@ use Rattle.record_rules.specs.Closing.{defaults_of}
 use Rattle.module_record.specs.Noting.{noted}
 use Rattle.module_record.proofs.Noted.{note_turn, length_more}
 use Rattle.module_record.proofs.faults.note_defaults.Goals as goal
-use Rattle.module_record.proofs.faults.note_defaults.Goals.{in-Some, in-default}
+use Rattle.module_record.proofs.faults.note_defaults.Goals.{in-Some, in_default}
 
 pub loop-row-preserved : goal.loop-row-preserved
 loop-row-preserved c =
-    elim c.match-default-span.branch [
+    elim c.match-default_span.branch [
       | in-Some w ↦
-          (let g = ap items w.faults-is ∙ w.note-default.ensures in (
+          (let g = ap items w.faults-is ∙ w.note_default.ensures in (
             note_turn c.args.text.now c.args.rows.now c.loop-row.row-index _ c.loop-row-test.true _ (items c.args.faults.now) (items c.loop-row.faults) _ w.in-Some.ensures c.loop-row.invariant.0 g,
             length_more (items c.loop-row.faults) _ _ _ _ g c.loop-row.invariant.1 (omega arith),
           ))
-      | in-default w ↦
+      | in_default w ↦
           (let g = ap items w.faults-is ∙ sym (append-nil (items c.loop-row.faults)) in (
-            note_turn c.args.text.now c.args.rows.now c.loop-row.row-index _ c.loop-row-test.true _ (items c.args.faults.now) (items c.loop-row.faults) _ w.in-default.ensures c.loop-row.invariant.0 g,
+            note_turn c.args.text.now c.args.rows.now c.loop-row.row-index _ c.loop-row-test.true _ (items c.args.faults.now) (items c.loop-row.faults) _ w.in_default.ensures c.loop-row.invariant.0 g,
             length_more (items c.loop-row.faults) _ _ _ _ g c.loop-row.invariant.1 (omega arith),
           ))
     ]

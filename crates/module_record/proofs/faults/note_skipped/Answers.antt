@@ -7,8 +7,8 @@ use Rattle.module_record.proofs.faults.note_skipped.Goals as goal
 
 pub loop-span-preserved : goal.loop-span-preserved
 loop-span-preserved c = (
-  skip_turn c.args.spans.now c.loop-span.span-index _ (items c.args.faults.now) (items c.loop-span.faults) _ c.loop-span-test.true c.loop-span.invariant.0 c.note-default.ensures,
-  length_more (items c.loop-span.faults) _ _ _ _ c.note-default.ensures c.loop-span.invariant.1 (omega arith),
+  skip_turn c.args.spans.now c.loop-span.span-index _ (items c.args.faults.now) (items c.loop-span.faults) _ c.loop-span-test.true c.loop-span.invariant.0 c.note_default.ensures,
+  length_more (items c.loop-span.faults) _ _ _ _ c.note_default.ensures c.loop-span.invariant.1 (omega arith),
 )
 
 pub returns : goal.returns

@@ -5,7 +5,7 @@ use Rattle.replay.proofs.hex.decode.Goals as goal
 pub loop-rest-preserved : goal.loop-rest-preserved
 loop-rest-preserved c =
     let long : 2 ≤ length c.loop-rest.rest.now = search rules in
-    one_more _ _ _ _ _ c.loop-rest.invariant long c.in-ok-byte-of.ensures.0 c.in-ok-byte-of.ensures.1 c.in-ok-push.ensures.items
+    one_more _ _ _ _ _ c.loop-rest.invariant long c.in_ok-byte_of.ensures.0 c.in_ok-byte_of.ensures.1 c.in_ok-push.ensures.items
 
-pub returns-then-is-empty : goal.returns-then-is-empty
-returns-then-is-empty c = all_read _ _ _ c.loop-rest.invariant (sym c.if-is-empty.ensures)
+pub returns-then-is_empty : goal.returns-then-is_empty
+returns-then-is_empty c = all_read _ _ _ c.loop-rest.invariant (sym c.if-is_empty.ensures)

@@ -10,4 +10,4 @@ returns c =
     let bytes = c.new-file.ensures.bytes in
     let text = c.new-file.ensures.text in
     let ending = c.ending-ending.ensures ∙ (λ i. ending_of (entries (length (text i)) (bytes i))) in
-    made_as (λ s. string_bytes s) c.list-lines.result _ _ c.list-lines.ensures (λ i. list_lines (listed (entries (length (text i)) (bytes i))) (ending i))
+    made_as (λ s. string_bytes s) c.list_lines.result _ _ c.list_lines.ensures (λ i. list_lines (listed (entries (length (text i)) (bytes i))) (ending i))

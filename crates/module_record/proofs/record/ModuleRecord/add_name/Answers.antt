@@ -3,6 +3,6 @@ use Rattle.pages.specs.Items.{items}
 use Rattle.module_record.proofs.Lengths.{pushed_length}
 use Rattle.module_record.proofs.record.ModuleRecord.add_name.Goals as goal
 
-pub invariant-of-self : goal.invariant-of-self
-invariant-of-self c =
-    (omega (arith, pushed_length (items c.args.self.now.names) (items c.push.new.self) _ _ c.push.ensures.rows, c.args.self.now.bounded), tt)
+pub invariant_of-self : goal.invariant_of-self
+invariant_of-self c =
+    record { bounded = omega (arith, pushed_length (items c.args.self.now.names) (items c.push.new.self) _ _ c.push.ensures.rows, c.args.self.now.bounded) }

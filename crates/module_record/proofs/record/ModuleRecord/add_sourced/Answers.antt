@@ -7,18 +7,18 @@ use Rattle.module_record.specs.Books.{book, marked}
 use Rattle.module_record.proofs.Loops.{loop_stop, loop_done}
 use Rattle.module_record.proofs.record.ModuleRecord.add_sourced.Goals as goal
 
-pub returns-in-err-add-waiting : goal.returns-in-err-add-waiting
-returns-in-err-add-waiting c =
-    let p = err_from_is_err_and c.from-residual.result c.from-residual.ensures.1 in
+pub returns-in_err-add_waiting : goal.returns-in_err-add_waiting
+returns-in_err-add_waiting c =
+    let p = err_from_is_err_and c.from_residual.result c.from_residual.ensures.1 in
     rw p.1
-    (loop_stop (λ sp. a_waiting (from_row c.args.page.now.span c.args.request sp) ∷ []) _ _ _ _ (book c.args.self.now) (book c.loop-specifier.self) (book c.add-waiting.new.self) c.as-slice-specifier-items.ensures c.loop-specifier-test.true c.loop-specifier.invariant
-    (ap (λ x. entering (a_waiting x ∷ []) (book c.loop-specifier.self)) (sym c.of-from.ensures) ∙ c.in-err-add-waiting.ensures))
+    (loop_stop (λ sp. a_waiting (from_row c.args.page.now.span c.args.request sp) ∷ []) _ _ _ _ (book c.args.self.now) (book c.loop-specifier.self) (book c.add_waiting.new.self) c.as_slice-specifier-items.ensures c.loop-specifier-test.true c.loop-specifier.invariant
+    (ap (λ x. entering (a_waiting x ∷ []) (book c.loop-specifier.self)) (sym c.of_from.ensures) ∙ c.in_err-add_waiting.ensures))
 
 pub loop-specifier-preserved : goal.loop-specifier-preserved
 loop-specifier-preserved c =
-    each_turn (λ sp. a_waiting (from_row c.args.page.now.span c.args.request sp) ∷ []) _ _ _ (book c.args.self.now) (book c.loop-specifier.self) (book c.add-waiting.new.self) c.loop-specifier-test.true c.loop-specifier.invariant
-    (ap (λ x. entering (a_waiting x ∷ []) (book c.loop-specifier.self)) (sym c.of-from.ensures) ∙ c.in-ok-add-waiting.ensures)
+    each_turn (λ sp. a_waiting (from_row c.args.page.now.span c.args.request sp) ∷ []) _ _ _ (book c.args.self.now) (book c.loop-specifier.self) (book c.add_waiting.new.self) c.loop-specifier-test.true c.loop-specifier.invariant
+    (ap (λ x. entering (a_waiting x ∷ []) (book c.loop-specifier.self)) (sym c.of_from.ensures) ∙ c.in_ok-add_waiting.ensures)
 
 pub returns : goal.returns
 returns c =
-    loop_done (λ sp. a_waiting (from_row c.args.page.now.span c.args.request sp) ∷ []) _ _ _ (book c.args.self.now) (book c.loop-specifier.self) c.as-slice-specifier-items.ensures c.loop-specifier-test.false c.loop-specifier.invariant
+    loop_done (λ sp. a_waiting (from_row c.args.page.now.span c.args.request sp) ∷ []) _ _ _ (book c.args.self.now) (book c.loop-specifier.self) c.as_slice-specifier-items.ensures c.loop-specifier-test.false c.loop-specifier.invariant

@@ -5,13 +5,13 @@ use Rattle.module_record.specs.Books.{book}
 use Rattle.module_record.proofs.Skipping.{skips_room}
 use Rattle.module_record.proofs.record.ModuleRecord.skip_aliases.Goals as goal
 
-pub skip-default-requires : goal.skip-default-requires
-skip-default-requires c =
+pub skip_default-requires : goal.skip_default-requires
+skip_default-requires c =
     skips_room c.args.text.now c.args.specifiers.now c.loop-specifier.specifier-index (book c.args.self.now) (book c.loop-specifier.self) c.loop-specifier-test.true c.loop-specifier.invariant c.requires
 
 pub loop-specifier-preserved : goal.loop-specifier-preserved
 loop-specifier-preserved c =
-    each_turn (λ sp. skips c.args.text.now sp.alias) _ _ _ (book c.args.self.now) (book c.loop-specifier.self) (book c.skip-default.new.self) c.loop-specifier-test.true c.loop-specifier.invariant c.skip-default.ensures
+    each_turn (λ sp. skips c.args.text.now sp.alias) _ _ _ (book c.args.self.now) (book c.loop-specifier.self) (book c.skip_default.new.self) c.loop-specifier-test.true c.loop-specifier.invariant c.skip_default.ensures
 
 pub returns : goal.returns
 returns c =

@@ -3,6 +3,6 @@ use Rattle.pages.specs.Items.{items}
 use Rattle.module_record.proofs.Lengths.{pushed_length}
 use Rattle.module_record.proofs.record.ModuleRecord.skip_default.Goals as goal
 
-pub invariant-of-self : goal.invariant-of-self
-invariant-of-self c =
-    (omega (arith, (pushed_length (items c.args.self.now.skipped) (items c.push.new.self) _ _ c.push.ensures.rows).1, c.requires), tt)
+pub invariant_of-self : goal.invariant_of-self
+invariant_of-self c =
+    record { bounded = omega (arith, (pushed_length (items c.args.self.now.skipped) (items c.push.new.self) _ _ c.push.ensures.rows).1, c.requires) }
