@@ -1,5 +1,5 @@
 -- How long a table is after a push.
-use Rattle.std.proofs.Common.{◌≡◌, ℕ, ◌+◌, ◌<◌, ◌≤◌, Bool, true, false, cond, List, [], ◌∷◌, ◌++◌, length, sym, refl, ap, ◌∙◌, arith}
+use Rattle.std.proofs.Common.{◌≡◌, ◌+◌, ◌≤◌, Bool, true, false, cond, List, [], ◌∷◌, ◌++◌, length, ap, ◌∙◌, arith}
 use Rattle.std.proofs.lemmas.List.{length_push}
 
 pub pushed_length : {X : Type 0} (xs ys : List X) (x : X) (t : Bool) → ys ≡ cond t (xs ++ x ∷ []) xs → (length xs ≤ length ys) × (length ys ≤ length xs + 1)

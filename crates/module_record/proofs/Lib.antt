@@ -1,4 +1,3 @@
-pub mod Comparing
 pub mod Loops
 pub mod Lengths
 pub mod Skipping

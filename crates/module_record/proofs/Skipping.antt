@@ -1,12 +1,11 @@
 -- There is room for skipped spans, since their names were written before.
-use Rattle.std.proofs.Common.{◌≡◌, ℕ, ◌+◌, ◌<◌, ◌≤◌, Bool, true, false, cond, List, [], ◌∷◌, ◌++◌, map, length, take, Some, None, Option, sym, refl, ap, ◌∙◌, arith}
+use Rattle.std.proofs.Common.{◌≡◌, ℕ, ◌+◌, ◌<◌, ◌≤◌, Bool, true, false, cond, List, [], ◌∷◌, ◌++◌, map, length, take, Some, None, Option, refl, ap, ◌∙◌, arith}
 use Rattle.std.specs.List.{flat_map}
-use Rattle.std.proofs.lemmas.List.{length-append, length-take-le, append-nil}
+use Rattle.std.proofs.lemmas.List.{length-append, length-take-le}
 use Rattle.lexer.specs.declared.token.Span.{Span}
 use Rattle.pages.specs.declared.rows.Name.{Name}
 use Rattle.pages.specs.declared.rows.Specifier.{Specifier}
-use Rattle.record_rules.specs.Rows.{name_span}
-use Rattle.record_rules.specs.Filing.{Book, Write, a_name, a_skipped, entering, went, reads_default, skips, name_writes, names_in, skipped_in, gathered, join_books}
+use Rattle.record_rules.specs.Filing.{Book, a_skipped, entering, went, reads_default, skips, name_writes, names_in, skipped_in}
 use Rattle.record_rules.proofs.Entering.{wrote}
 use Rattle.record_rules.proofs.Joins.{joined_append}
 use Rattle.module_record.specs.Books.{aliases}

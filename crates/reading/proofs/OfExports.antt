@@ -15,7 +15,7 @@ use Rattle.reading.specs.declared.naming.Naming.{Naming}
 use Rattle.reading.specs.Ahead.{clause_follows}
 use Rattle.reading.specs.Settings.{Setting}
 use Rattle.reading.specs.Hosts.{Host}
-use Rattle.reading.specs.Readings.{reserved_text, Clause, all_from, names_from, names, tokens_at, Fits}
+use Rattle.reading.specs.Readings.{reserved_text, Clause, all_from, names_from, tokens_at, Fits}
 use Rattle.reading.specs.Grammar.{Word, Locals, locals_none, locals_more, Sourced, sourced, ExportClause, all_of, all_as, some_of, own, by_declaration, by_default}
 use Rattle.reading.specs.Steps.{Out, ending}
 use Rattle.reading.specs.Braces.{braced}

@@ -18,7 +18,7 @@ use Rattle.pages.specs.Faults.{fault_at, fault_with, fault_of_host}
 use Rattle.reading.specs.declared.naming.Naming.{Naming}
 use Rattle.reading.specs.Ahead.{next, rest, span_here, at, attributes_follow}
 use Rattle.reading.specs.Settings.{Setting}
-use Rattle.reading.specs.Readings.{Clause, all_from, names_from, names, declared, defaulted, last_end, tokens_at, named}
+use Rattle.reading.specs.Readings.{Clause, all_from, names_from, declared, defaulted, last_end, tokens_at, named}
 use Rattle.reading.specs.Steps.{Out, stop, got, Reader, stop_at, add, bind, test, esc, token, none, word, str, identifier, binding, name, ending}
 use Rattle.reading.specs.Braces.{closes, separator, elements, inside, braced}
 use Rattle.reading.specs.Attributes.{key, attribute, repeats, attributes}

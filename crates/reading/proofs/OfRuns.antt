@@ -1,15 +1,15 @@
 -- Runs of items.
-use Rattle.std.proofs.Common.{◌≡◌, ℕ, zero, suc, ◌+◌, ◌<◌, ◌≤◌, List, [], ◌∷◌, ◌++◌, map, length, sym, refl, ap, ◌∙◌, subst, arith, length-append}
+use Rattle.std.proofs.Common.{◌≡◌, ℕ, zero, suc, ◌+◌, ◌<◌, ◌≤◌, List, [], ◌∷◌, ◌++◌, length, refl, ap, ◌∙◌, arith, length-append}
 use Rattle.std.proofs.lemmas.List.{append-nil}
 use Rattle.lexer.specs.declared.token.Token.{Token}
 use Rattle.pages.specs.declared.fault.Fault.{Fault}
 use Rattle.reading.specs.Settings.{Setting}
 use Rattle.reading.specs.Hosts.{Host}
 use Rattle.reading.specs.Readings.{Item, AllFit, upto}
-use Rattle.reading.specs.Steps.{Out, got, add, bind}
+use Rattle.reading.specs.Steps.{got, add, bind}
 use Rattle.reading.specs.Items.{item, items, read_all}
 use Rattle.reading.specs.Grammar.{Items, no_items, an_item}
-use Rattle.reading.specs.Runs.{Paged, items_of, faults_of, clean, Run, stays, goes, Clearly, ExactRuns, ExactlyRuns}
+use Rattle.reading.specs.Runs.{Paged, items_of, faults_of, Run, stays, goes, Clearly, ExactlyRuns}
 use Rattle.reading.proofs.Clean.{front_none}
 use Rattle.reading.proofs.Fronts.{by_item, some_less}
 use Rattle.reading.proofs.Whole.{item_sound, item_complete, after}

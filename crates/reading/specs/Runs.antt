@@ -5,7 +5,7 @@ use Rattle.pages.specs.declared.fault.Fault.{Fault}
 use Rattle.reading.specs.Settings.{Setting}
 use Rattle.reading.specs.Hosts.{Host}
 use Rattle.reading.specs.Readings.{Item, AllFit}
-use Rattle.reading.specs.Steps.{Out, got}
+use Rattle.reading.specs.Steps.{got}
 use Rattle.reading.specs.Items.{item, read_all}
 use Rattle.reading.specs.Grammar.{Items}
 

@@ -1,17 +1,16 @@
 -- Pages in another order give the same rows equally often, and faults together.
-use Rattle.std.proofs.Common.{◌≡◌, ℕ, ◌+◌, ◌<◌, ◌≤◌, Bool, true, false, cond, eqb, ltb, List, [], ◌∷◌, ◌++◌, map, length, Some, None, fold, sum_by, count_by, Option, unwrap_or, sym, refl, ap, ◌∙◌, subst, arith}
+use Rattle.std.proofs.Common.{◌≡◌, ℕ, ◌+◌, ◌≤◌, Bool, true, false, cond, eqb, ltb, List, [], ◌∷◌, ◌++◌, map, length, Some, None, fold, sum_by, count_by, Option, unwrap_or, sym, refl, ap, ◌∙◌, subst, arith}
 use Rattle.std.specs.List.{flat_map}
 use Rattle.std.specs.Str.{bytes_eq}
 use Rattle.std.proofs.lemmas.Slice.Eq.{bytes_eq-Decides}
 use Rattle.std.proofs.lemmas.List.{append-nil, append_assoc, length-append, length-map}
 use Rattle.std.proofs.lemmas.List.Sums.{sum_by-cons, sum_by-append, sum_by_push}
-use Rattle.std.proofs.lemmas.Bool.{ltb-true, ltb-false, le-ltb, ne_eqb, cond-true, cond-false}
+use Rattle.std.proofs.lemmas.Bool.{ltb-true, ne_eqb, cond-true, cond-false}
 use Rattle.lexer.specs.declared.token.Part.{Part}
 use Rattle.lexer.specs.declared.token.Span.{Span}
 use Rattle.lexer.specs.Tokens.{part_of}
 use Rattle.pages.specs.declared.fault.Fault.{Fault}
 use Rattle.pages.specs.declared.page.Page.{Page}
-use Rattle.pages.specs.Contents.{Content}
 use Rattle.record_rules.specs.declared.rows.NameSpan.{NameSpan}
 use Rattle.record_rules.specs.declared.rows.ImportRow.{ImportRow}
 use Rattle.record_rules.specs.declared.rows.ExportRow.{ExportRow}
@@ -20,8 +19,8 @@ use Rattle.record_rules.specs.declared.rows.LocalName.{LocalName}
 use Rattle.record_rules.specs.declared.rows.LocalName.TheVariants as local
 use Rattle.record_rules.specs.declared.rows.Settled.{Settled}
 use Rattle.record_rules.specs.Filing.{Book, blank_book, adds, join_books}
-use Rattle.record_rules.specs.Closing.{same_text, first_import, handed, by_request, by_local, by_import, by_handed, settle, in_local, in_indirect, in_star, Lists, sorted, last_such, repeat_of, repeat_at, repeats_from, repeats, default_span, defaults_of, all_defaults, several, Closing, closing}
-use Rattle.record_rules.specs.Runs.{run, taken_from, taken_pages, taken_imports, Once, Equally, Agree, OrdersAgree}
+use Rattle.record_rules.specs.Closing.{same_text, first_import, handed, by_request, by_local, by_import, by_handed, settle, in_local, in_indirect, in_star, sorted, last_such, repeat_of, repeat_at, repeats_from, repeats, default_span, defaults_of, all_defaults, several, closing}
+use Rattle.record_rules.specs.Runs.{run, taken_pages, Once, Equally, Agree, OrdersAgree}
 use Rattle.record_rules.proofs.Joins.{joined_joined}
 use Rattle.record_rules.proofs.Counting.{Same, sum_by_same, sum_by_plus, sum_by_joined, length_sum, length_joined, sums}
 use Rattle.record_rules.proofs.Tables.{history, imports_after}

@@ -1,5 +1,5 @@
 -- Each taken export has one row in one list.
-use Rattle.std.proofs.Common.{◌≡◌, ℕ, Bool, true, false, cond, List, [], ◌∷◌, ◌++◌, Some, None, Option, sym, refl, ap, ◌∙◌, subst, arith}
+use Rattle.std.proofs.Common.{◌≡◌, ℕ, Bool, true, false, cond, List, [], ◌∷◌, ◌++◌, Some, None, Option, sym, refl, ap, subst, arith}
 use Rattle.std.specs.List.{flat_map}
 use Rattle.lexer.specs.declared.token.Part.{Part}
 use Rattle.pages.specs.declared.page.Page.{Page}
@@ -12,9 +12,9 @@ use Rattle.record_rules.specs.declared.rows.LocalName.{LocalName}
 use Rattle.record_rules.specs.declared.rows.LocalName.TheVariants as local
 use Rattle.record_rules.specs.declared.rows.Settled.{Settled}
 use Rattle.record_rules.specs.declared.rows.Settled.TheVariants as settled
-use Rattle.record_rules.specs.Filing.{Book, blank_book}
-use Rattle.record_rules.specs.Closing.{same_text, first_import, handed, by_request, by_taken, by_local, by_import, by_handed, settle, in_local, in_indirect, in_star, Lists, sorted, Closing, closing}
-use Rattle.record_rules.specs.Runs.{run, Export, from_lone, export_row, taken_exports, taken_imports, Unbound, First, Place, to_local, to_indirect, to_star, Goes, star, sourced, nameless, unbound, kept, handed_on, Placed, done, none, local_next, indirect_next, star_next, ExportsPlaced}
+use Rattle.record_rules.specs.Filing.{blank_book}
+use Rattle.record_rules.specs.Closing.{same_text, first_import, handed, by_request, by_taken, by_local, by_import, by_handed, settle, in_local, in_indirect, in_star, Lists, sorted, closing}
+use Rattle.record_rules.specs.Runs.{run, Export, from_lone, export_row, taken_exports, taken_imports, Unbound, First, to_local, to_indirect, to_star, Goes, star, sourced, nameless, unbound, kept, handed_on, Placed, done, none, local_next, indirect_next, star_next, ExportsPlaced}
 use Rattle.record_rules.proofs.Tables.{waits, imports_after, waiting_after}
 
 none_step : (text : List ℕ) (n : Part) (j : ImportRow) (js : List ImportRow) (t : Bool) → same_text text j.local.text n ≡ t

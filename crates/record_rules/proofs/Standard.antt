@@ -1,8 +1,6 @@
 -- The rows of a closed record are the entries of ECMA-262.
-use Rattle.std.proofs.Common.{◌≡◌, ℕ, Bool, true, false, cond, not, List, [], ◌∷◌, ◌++◌, map, Some, None, filter, Option, sym, refl, ap, ◌∙◌, subst}
+use Rattle.std.proofs.Common.{◌≡◌, ℕ, Bool, true, false, cond, not, List, [], ◌∷◌, ◌++◌, map, Some, None, filter, Option, sym, refl, ap, ◌∙◌}
 use Rattle.std.specs.List.{flat_map}
-use Rattle.std.specs.Str.{bytes_eq}
-use Rattle.std.proofs.lemmas.List.{append-nil}
 use Rattle.lexer.specs.declared.token.Part.{Part}
 use Rattle.lexer.specs.declared.token.Span.{Span}
 use Rattle.lexer.specs.Tokens.{part_of}
@@ -31,10 +29,10 @@ use Rattle.record_rules.specs.declared.rows.ExportRow.{ExportRow}
 use Rattle.record_rules.specs.declared.rows.Settled.{Settled}
 use Rattle.record_rules.specs.declared.rows.Settled.TheVariants as settled
 use Rattle.record_rules.specs.Rows.{module_name, import_name_by, import_row, request_row, all_row, from_row, braces_row, declared_row, default_row}
-use Rattle.record_rules.specs.Filing.{Book, blank_book, writes, requests_in, adds}
-use Rattle.record_rules.specs.Closing.{same_text, first_import, handed, by_request, by_taken, by_local, by_import, by_handed, settle, in_local, in_indirect, in_star, sorted, Closing, closing}
-use Rattle.record_rules.specs.Runs.{run, taken_pages, Export, all as all_of, from, brace, declared, as_default, exports_of, imports_of, taken_exports, taken_imports}
-use Rattle.record_rules.specs.Ecma.{ImportEntry, ExportEntry, specifier_import, import_entries, star_entry, export_entries, module_requests, Sorted, as_local, as_indirect, as_star, import_of, re_export, sort_found, sort_bound, sort_taken, sort_request, sort, local_in, indirect_in, star_in, imported_text, import_entry_of, request_text, taken_text, exported_text, local_text, export_entry_of, well_formed, clauses, Entries, ByTheStandard}
+use Rattle.record_rules.specs.Filing.{blank_book, adds}
+use Rattle.record_rules.specs.Closing.{same_text, first_import, handed, by_request, by_taken, by_local, by_import, by_handed, settle, in_local, in_indirect, in_star, closing}
+use Rattle.record_rules.specs.Runs.{run, taken_pages, from, brace, declared, exports_of, imports_of, taken_exports, taken_imports}
+use Rattle.record_rules.specs.Ecma.{ImportEntry, ExportEntry, specifier_import, import_entries, star_entry, export_entries, module_requests, Sorted, as_local, as_indirect, as_star, import_of, re_export, sort_found, sort_bound, sort_taken, sort_request, sort, local_in, indirect_in, star_in, imported_text, import_entry_of, request_text, taken_text, local_text, export_entry_of, well_formed, clauses, ByTheStandard}
 use Rattle.record_rules.proofs.Joins.{joined_joined, joined_map, joined_same, joined_none, joined_one, map_joined}
 use Rattle.record_rules.proofs.Tables.{waits, history, imports_after, waiting_after, requests_of_lem, requests_of}
 

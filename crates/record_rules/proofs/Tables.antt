@@ -1,12 +1,11 @@
 -- What the tables hold after any pages, and what a page adds to each.
-use Rattle.std.proofs.Common.{◌≡◌, ℕ, Bool, true, false, cond, List, [], ◌∷◌, ◌++◌, map, is_ok, Some, None, Ok, Err, Option, Result, sym, refl, ap, ◌∙◌}
+use Rattle.std.proofs.Common.{◌≡◌, ℕ, Bool, true, false, cond, List, [], ◌∷◌, ◌++◌, map, is_ok, Some, None, Ok, Err, Option, sym, refl, ap, ◌∙◌}
 use Rattle.std.specs.List.{flat_map}
 use Rattle.std.proofs.lemmas.List.{append_assoc, append-nil}
 use Rattle.lexer.specs.declared.token.Span.{Span}
 use Rattle.pages.specs.declared.fault.Fault.{Fault}
 use Rattle.pages.specs.declared.fault.FaultKind.TheVariants as wrong
 use Rattle.pages.specs.declared.rows.Name.{Name}
-use Rattle.pages.specs.declared.rows.Request.{Request}
 use Rattle.pages.specs.declared.rows.Specifier.{Specifier}
 use Rattle.pages.specs.declared.page.Page.{Page}
 use Rattle.pages.specs.Contents.{Content, content, blank, statement, import, export_all, export_from, braces, declaration, default}
@@ -15,9 +14,9 @@ use Rattle.record_rules.specs.declared.rows.ImportRow.{ImportRow}
 use Rattle.record_rules.specs.declared.rows.RequestRow.{RequestRow}
 use Rattle.record_rules.specs.declared.rows.Clause.TheVariants as clause
 use Rattle.record_rules.specs.declared.rows.ExportRow.{ExportRow}
-use Rattle.record_rules.specs.Rows.{module_name, import_row, request_row, all_row, from_row, braces_row, declared_row}
-use Rattle.record_rules.specs.Filing.{Book, blank_book, Write, an_import, a_request, a_waiting, a_name, a_skipped, reads_default, skips, braces_writes, declared_writes, import_writes, name_writes, skip_writes, all_writes, from_writes, writes, imports_in, requests_in, waiting_in, adds, join_books, fits, is_blank, answered, filed}
-use Rattle.record_rules.specs.Runs.{run, taken_from, taken_pages, Export, all, from, brace, declared, as_default, exports_of, from_lone, export_row, imports_of, taken_exports, taken_imports}
+use Rattle.record_rules.specs.Rows.{module_name, import_row, request_row, all_row, from_row}
+use Rattle.record_rules.specs.Filing.{Book, blank_book, Write, an_import, a_request, a_waiting, a_name, a_skipped, reads_default, skips, braces_writes, declared_writes, name_writes, skip_writes, writes, imports_in, requests_in, waiting_in, adds, join_books, fits, is_blank, answered, filed}
+use Rattle.record_rules.specs.Runs.{run, taken_from, taken_pages, Export, from, brace, declared, exports_of, from_lone, export_row, imports_of, taken_exports, taken_imports}
 use Rattle.record_rules.proofs.Joins.{joined_append, joined_joined, joined_map, joined_same, joined_none, joined_one}
 
 -- the tables after any pages

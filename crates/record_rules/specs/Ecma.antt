@@ -1,11 +1,9 @@
 -- The import and export entries of ECMA-262, by text, and how ParseModule sorts them.
-use Rattle.std.specs.Prelude.{◌≡◌, ℕ, Bool, true, false, cond, not, List, [], ◌∷◌, ◌++◌, map, Some, None, codes, filter, Option}
+use Rattle.std.specs.Prelude.{◌≡◌, ℕ, Bool, true, cond, not, List, [], ◌∷◌, map, Some, None, codes, filter, Option}
 use Rattle.std.specs.List.{flat_map}
 use Rattle.std.specs.Str.{bytes_eq}
-use Rattle.lexer.specs.declared.token.Part.{Part}
 use Rattle.lexer.specs.Tokens.{part_of}
 use Rattle.pages.specs.declared.rows.Name.{Name}
-use Rattle.pages.specs.declared.rows.Request.{Request}
 use Rattle.pages.specs.declared.rows.Specifier.{Specifier}
 use Rattle.pages.specs.declared.rows.Binding.{Binding}
 use Rattle.pages.specs.declared.rows.Binding.TheVariants as binding
@@ -26,7 +24,7 @@ use Rattle.record_rules.specs.declared.rows.ExportName.TheVariants as exported
 use Rattle.record_rules.specs.declared.rows.LocalName.{LocalName}
 use Rattle.record_rules.specs.declared.rows.LocalName.TheVariants as local
 use Rattle.record_rules.specs.declared.rows.ExportRow.{ExportRow}
-use Rattle.record_rules.specs.Closing.{Closing, Lists}
+use Rattle.record_rules.specs.Closing.{Closing}
 use Rattle.record_rules.specs.Runs.{taken_pages}
 
 abbrev pub Text : Type 0

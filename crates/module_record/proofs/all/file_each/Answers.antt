@@ -1,6 +1,5 @@
-use Rattle.std.proofs.Common.{sym, refl, ap, ◌∙◌, arith}
 use Rattle.module_record.specs.Books.{book}
-use Rattle.module_record.proofs.Filings.{going_turn, going_all, refused_turn, taken_turn}
+use Rattle.module_record.proofs.Filings.{going_all, refused_turn, taken_turn}
 use Rattle.module_record.proofs.all.file_each.Goals as goal
 use Rattle.module_record.proofs.all.file_each.Goals.{in-Err, in_default}
 

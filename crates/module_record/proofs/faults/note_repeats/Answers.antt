@@ -1,4 +1,4 @@
-use Rattle.std.proofs.Common.{length, sym, ap, ◌∙◌, arith}
+use Rattle.std.proofs.Common.{length, ap, ◌∙◌, arith}
 use Rattle.std.proofs.lemmas.List.{length_push}
 use Rattle.pages.specs.Items.{items}
 use Rattle.module_record.proofs.Noted.{repeat_turn, repeat_all, repeat_found, repeat_none}
