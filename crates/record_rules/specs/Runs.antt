@@ -1,7 +1,7 @@
 -- Every list of pages that is given to a record since its opening: which of them it takes, and what their exports
 -- and imports are.
 use Rattle.std.specs.Prelude.{◌≡◌, ℕ, ◌≤◌, Bool, true, false, cond, List, [], ◌∷◌, ◌++◌, map, is_ok, Some, None, count_by, Option, ◌≢◌}
-use Rattle.std.specs.List.{flat_map, AllByRecursion as All}
+use Rattle.std.specs.List.{flat_map, AllByRecursion}
 use Rattle.lexer.specs.declared.token.Span.{Span}
 use Rattle.lexer.specs.declared.token.Part.{Part}
 use Rattle.pages.specs.declared.rows.Name.{Name}
@@ -93,7 +93,7 @@ taken_imports text ps = flat_map imports_of (taken_pages text ps)
 
 -- no import has the local name
 abbrev pub Unbound : List ℕ → Part → List ImportRow → Type 0
-Unbound text name is = All (λ i. same_text text i.local.text name ≡ false) is
+Unbound text name is = AllByRecursion (λ i. same_text text i.local.text name ≡ false) is
 
 -- the first import of a local name
 pub record First (text : List ℕ) (name : Part) (is : List ImportRow) (i : ImportRow) : Type 0 where

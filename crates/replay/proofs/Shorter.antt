@@ -1,5 +1,5 @@
 -- What is left after a line is shorter than what there was.
-use Rattle.std.proofs.Common.{ℕ, ◌<◌, List, ◌∷◌, ◌++◌, length, ap, arith, length-append}
+use Rattle.std.proofs.Common.{ℕ, ◌<◌, List, length, ap, arith, length-append}
 use Rattle.replay.specs.Lined.{FirstLine, Fielded}
 
 pub line_shorter : (before line after : List ℕ) → FirstLine before line after → length after < length before

@@ -1,4 +1,4 @@
-use Rattle.std.proofs.Common.{◌≡◌, string_bytes, ◌∙◌, append_assoc}
+use Rattle.std.proofs.Common.{◌≡◌, string_bytes, append_assoc}
 use Rattle.replay.specs.Shown.{line_of, token_line}
 use Rattle.replay.proofs.Listing.{made_as}
 use Rattle.replay.proofs.tokens.token_line.Goals as goal

@@ -1,4 +1,4 @@
-use Rattle.std.proofs.Common.{ap, ◌∙◌, arith}
+use Rattle.std.proofs.Common.{◌∙◌, arith}
 use Rattle.replay.proofs.Listing.{one_line, all_lines}
 use Rattle.replay.proofs.tokens.token_lines.Goals as goal
 
