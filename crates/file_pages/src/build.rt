@@ -1,13 +1,14 @@
-// Pages of a module, by where their parts stand in its text.
+//! Pages of a module, by where their parts stand in its text.
 use lexer::token::{Part, Span};
 use pages::page::{DefaultName, Page, PageKind, Phase};
 use pages::rows::{Binding, Name, Request, Specifier};
+use pages::table::Full;
 
 pub fn span(start: u32, end: u32) -> Span {
     Span { start, end }
 }
 
-// The name that stands there.
+/// The name that stands there.
 pub fn name(start: u32, end: u32) -> Name {
     Name {
         text: Part {
@@ -19,7 +20,7 @@ pub fn name(start: u32, end: u32) -> Name {
     }
 }
 
-// The module that the string there names, without its quotes.
+/// The module that the string there names, without its quotes.
 pub fn module(start: u32, end: u32) -> Request {
     let text = Part {
         place: start.saturating_add(1),
@@ -32,25 +33,12 @@ pub fn module(start: u32, end: u32) -> Request {
     }
 }
 
-// The same, with a lone surrogate.
-pub fn lone_module(start: u32, end: u32) -> Request {
-    Request {
-        lone: true,
-        ..module(start, end)
-    }
-}
-
-// A name by itself.
+/// A name by itself.
 pub fn plain(name: Name) -> Specifier {
-    Specifier {
-        span: name.span,
-        binding: Binding::Named,
-        name,
-        alias: name,
-    }
+    renamed(name, name)
 }
 
-// `name as alias`
+/// `name as alias`
 pub fn renamed(name: Name, alias: Name) -> Specifier {
     Specifier {
         span: span(name.span.start, alias.span.end),
@@ -60,74 +48,84 @@ pub fn renamed(name: Name, alias: Name) -> Specifier {
     }
 }
 
-// The default of a module.
-pub fn default_of(name: Name) -> Specifier {
+/// The local name of a module's default or of its namespace.
+pub fn bound(binding: Binding, name: Name) -> Specifier {
     Specifier {
-        binding: Binding::Default,
+        binding,
         ..plain(name)
     }
 }
 
-// The namespace of a module.
-pub fn namespace_of(name: Name) -> Specifier {
-    Specifier {
-        binding: Binding::Namespace,
-        ..plain(name)
-    }
+fn with_specifiers(mut page: Page, specifiers: &[Specifier]) -> Result<Page, Full> {
+    specifiers
+        .iter()
+        .try_for_each(|specifier| page.specifiers.push(*specifier))?;
+    Ok(page)
 }
 
-// A page takes 128 specifiers; more are left out.
-fn with_specifiers(mut page: Page, specifiers: &[Specifier]) -> Page {
-    for specifier in specifiers {
-        let _ = page.specifiers.push(*specifier);
-    }
-    page
-}
-
-fn of_kind(kind: PageKind, statement: Span) -> Page {
-    let mut page = Page::blank();
-    page.kind = kind;
-    page.span = statement;
-    page
-}
-
-pub fn import(statement: Span, phase: Phase, source: Request, specifiers: &[Specifier]) -> Page {
-    let mut page = of_kind(PageKind::Import, statement);
-    page.phase = phase;
-    page.source = source;
+pub fn import(
+    span: Span,
+    phase: Phase,
+    source: Request,
+    specifiers: &[Specifier],
+) -> Result<Page, Full> {
+    let page = Page {
+        kind: PageKind::Import,
+        span,
+        phase,
+        source,
+        ..Page::default()
+    };
     with_specifiers(page, specifiers)
 }
 
-pub fn export_all(statement: Span, source: Request, exported: Option<Name>) -> Page {
-    let mut page = of_kind(PageKind::ExportAll, statement);
-    page.source = source;
-    page.exported = exported;
-    page
+pub fn export_all(span: Span, source: Request, exported: Option<Name>) -> Page {
+    Page {
+        kind: PageKind::ExportAll,
+        span,
+        source,
+        exported,
+        ..Page::default()
+    }
 }
 
-pub fn export_from(statement: Span, source: Request, specifiers: &[Specifier]) -> Page {
-    let mut page = of_kind(PageKind::ExportFrom, statement);
-    page.source = source;
+pub fn export_from(span: Span, source: Request, specifiers: &[Specifier]) -> Result<Page, Full> {
+    let page = Page {
+        kind: PageKind::ExportFrom,
+        span,
+        source,
+        ..Page::default()
+    };
     with_specifiers(page, specifiers)
 }
 
-pub fn braces(statement: Span, specifiers: &[Specifier]) -> Page {
-    with_specifiers(of_kind(PageKind::Braces, statement), specifiers)
+pub fn braces(span: Span, specifiers: &[Specifier]) -> Result<Page, Full> {
+    let page = Page {
+        kind: PageKind::Braces,
+        span,
+        ..Page::default()
+    };
+    with_specifiers(page, specifiers)
 }
 
-pub fn declaration(statement: Span, body: Span, names: &[Name]) -> Page {
-    let mut page = of_kind(PageKind::Declaration, statement);
-    page.body = body;
-    for name in names {
-        let _ = page.names.push(*name);
+pub fn declaration(span: Span, body: Span, names: &[Name]) -> Result<Page, Full> {
+    let mut page = Page {
+        kind: PageKind::Declaration,
+        span,
+        body,
+        ..Page::default()
+    };
+    names.iter().try_for_each(|name| page.names.push(*name))?;
+    Ok(page)
+}
+
+pub fn default(span: Span, keyword: Span, body: Span, local: DefaultName) -> Page {
+    Page {
+        kind: PageKind::Default,
+        span,
+        keyword,
+        body,
+        default: local,
+        ..Page::default()
     }
-    page
-}
-
-pub fn default(statement: Span, keyword: Span, body: Span, local: DefaultName) -> Page {
-    let mut page = of_kind(PageKind::Default, statement);
-    page.keyword = keyword;
-    page.body = body;
-    page.default = local;
-    page
 }

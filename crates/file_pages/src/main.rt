@@ -1,8 +1,9 @@
-// Files the pages of some sample modules and prints the records that they close to, and then how much a record
-// holds.
+//! Files the pages of some sample modules and prints the records that they close to, and then how much a record
+//! holds.
 #![tactic(auto)]
 
 mod build;
+mod in_text;
 mod limits;
 mod samples;
 mod show;
@@ -11,10 +12,6 @@ use crate::limits::show_limits;
 use crate::samples::show_samples;
 
 fn main(rt: HostRuntime) -> anyhow::Result<()> {
-    run(&rt)
-}
-
-fn run(rt: &HostRuntime) -> anyhow::Result<()> {
-    show_samples(rt)?;
-    show_limits(rt)
+    show_samples(&rt)?;
+    show_limits(&rt)
 }

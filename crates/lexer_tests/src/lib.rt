@@ -1,4 +1,4 @@
-// Tests of the two token sources on sound and damaged input.
+//! Tests of the two token sources on sound and damaged input.
 #![tactic(auto)]
 
 #[cfg(test)]

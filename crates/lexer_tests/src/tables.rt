@@ -1,4 +1,4 @@
-// Token tables, and a source that has only the three questions.
+//! Token tables, and a source that numbers places by its steps alone.
 use kinds::kind::Kind;
 use lexer::entry::{Broken, Ending};
 use lexer::source::Source;
@@ -28,9 +28,9 @@ fn rows_and_their_ending(rt: HostRuntime) -> Result<(), Fail> {
     let backward = [name(0, 3, 0, 3), name(4, 3, 0, 3), name(5, 6, 0, 1)];
     let table = TokenTable::new(&backward, b"abc");
     assert_eq!(rt; walk(rt.alloc(), &table)?.len(), 2);
-    assert_eq!(rt; table.look(1).kind.number(), 1);
+    assert_eq!(rt; table.look(1).kind, Kind::Undetermined);
     assert_eq!(rt; table.look(1).span.start, 0);
-    assert_eq!(rt; table.look(2).kind.number(), 0);
+    assert_eq!(rt; table.look(2).kind, Kind::Eof);
     assert_eq!(rt; table.ending(), Ending::AtBad(1, Broken::BadEnd));
     let outside = [name(0, 3, 1, 3)];
     let table = TokenTable::new(&outside, b"abc");
@@ -47,7 +47,53 @@ fn an_eof_row_ends_the_list(rt: HostRuntime) {
     assert_eq!(rt; table.ending(), Ending::AtEof(1));
     assert_eq!(rt; table.after(0), 1);
     assert_eq!(rt; table.after(1), 1);
-    assert_eq!(rt; table.look(2).kind.number(), 0);
+    assert_eq!(rt; table.look(2).kind, Kind::Eof);
+}
+
+// A token table that answers the questions alone: the number of a place comes from steps, as the trait has it.
+#[derive(Drop)]
+struct Steps<'a>(TokenTable<'a>);
+
+impl Source for Steps<'_> {
+    ghost tokens = { λ s. ⟦<TokenTable<'static> as Source>⟧.tokens s.0 };
+
+    ghost bytes = { λ s. ⟦<TokenTable<'static> as Source>⟧.bytes s.0 };
+
+    ghost place_of = { λ s. ⟦<TokenTable<'static> as Source>⟧.place_of s.0 };
+
+    ghost number_at = { λ s. ⟦<TokenTable<'static> as Source>⟧.number_at s.0 };
+
+    ghost orderly = { λ s. ⟦<TokenTable<'static> as Source>⟧.orderly s.0 };
+
+    ghost alive = { λ s. ⟦<TokenTable<'static> as Source>⟧.alive s.0 };
+
+    fn first(&self) -> usize {
+        self.0.first()
+    }
+
+    fn look(&self, place: usize) -> Token {
+        self.0.look(place)
+    }
+
+    fn after(&self, place: usize) -> usize {
+        self.0.after(place)
+    }
+
+    fn text(&self) -> &[u8] {
+        self.0.text()
+    }
+}
+
+#[test]
+fn steps_number_the_places(rt: HostRuntime) -> Result<(), Fail> {
+    let rows = [name(0, 3, 0, 3), name(4, 4, 3, 0), Token::ended()];
+    let steps = Steps(TokenTable::new(&rows, b"abc"));
+    assert_eq!(rt; walk(rt.alloc(), &steps)?.len(), 2);
+    assert_eq!(rt; steps.number_of(0), 0);
+    assert_eq!(rt; steps.number_of(1), 1);
+    assert_eq!(rt; steps.number_of(2), 2);
+    assert_eq!(rt; steps.number_of(9), 2);
+    Ok(())
 }
 
 #[test]

@@ -1,143 +1,93 @@
 -- Attributes and the end of a clause.
-use Rattle.std.proofs.Common.{◌≡◌, ℕ, ◌≤◌, Bool, true, false, cond, eqb, List, [], ◌∷◌, length, refl, ap, ◌∙◌, subst, inl, inr, arith}
+use Rattle.std.proofs.Common.{◌≡◌, ℕ, ◌≤◌, true, false, eqb, List, [], ◌∷◌, length, refl, inl, inr, arith}
 use Rattle.std.specs.Str.{bytes_eq}
-use Rattle.std.proofs.lemmas.Bool.{and_parts, and_from, or_cases, or_left, or_right, or_from, eqb-true, eq-eqb}
+use Rattle.std.proofs.lemmas.Bool.{and_parts, or_cases, or_left, or_right, or_from, both_ways, false_from_ne_true}
+use Rattle.std.proofs.lemmas.Slice.Eq.{bytes_eq-Decides}
 use Rattle.kinds.specs.declared.kind.Kind.{Kind}
 use Rattle.kinds.specs.declared.kind.Kind.TheVariants.{Eof, Undetermined, RCurly, Semicolon, With, Assert}
 use Rattle.kinds.specs.Numbers.{number}
 use Rattle.kinds.specs.Classes.{is_keyword}
 use Rattle.lexer.specs.declared.token.Token.{Token}
-use Rattle.pages.specs.declared.fault.Fault.{Fault}
 use Rattle.pages.specs.declared.fault.FaultKind.TheVariants.{NoString}
 use Rattle.pages.specs.declared.rows.Attribute.{Attribute}
 use Rattle.reading.specs.Ahead.{next, rest, at, attributes_follow}
 use Rattle.reading.specs.Settings.{Setting}
-use Rattle.reading.specs.Grammar.{One, one, Sign, Word, Key, OneAttribute, attribute, Apart, apart_none, apart_more, Distinct, distinct_none, distinct_more, keys, Attributes, no_attributes, some_attributes, End, semicolon, at_eof, at_brace, at_line}
+use Rattle.reading.specs.Grammar.{One, one, Sign, Word, OneAttribute, attribute, Apart, apart_none, apart_more, Distinct, distinct_none, distinct_more, keys, Attributes, no_attributes, some_attributes, End, semicolon, at_eof, at_brace, at_line}
 use Rattle.reading.specs.Steps.{ending}
 use Rattle.reading.specs.Braces.{closes, braced}
 use Rattle.reading.specs.Attributes.{key_text, repeated, repeats, attributes}
 use Rattle.reading.specs.Attributes as reader
 use Rattle.reading.specs.Main.{Cleanly}
-use Rattle.reading.proofs.Clean.{took, takes, bound_of, binds, tested, passes, fails, stopped, done, ends, added, adds, faulty, front_none, clash}
-use Rattle.reading.proofs.OfKinds.{same_is, seen, not_same, name_is_not, one_as, one_is, word_right, with_is_keyword, assert_is_keyword, key_right, colon_right, close_right, str_right}
-use Rattle.reading.proofs.Lists.{Follow, braced_sound, braced_complete}
-
--- texts
-text_is : (x y : List ℕ) → bytes_eq x y ≡ true → x ≡ y
-text_is [] [] e = refl
-text_is [] (b ∷ y) e = clash refl e
-text_is (a ∷ x) [] e = clash refl e
-text_is (a ∷ x) (b ∷ y) e =
-    let p = eqb-true a b (and_parts _ (bytes_eq x y) e).0 in
-    let q = text_is x y (and_parts (eqb a b) _ e).1 in cc
-
-text_self : (x : List ℕ) → bytes_eq x x ≡ true
-text_self [] = refl
-text_self (a ∷ x) = and_from _ _ (eq-eqb a a refl) (text_self x)
-
-text_apart : (x y : List ℕ) → (x ≡ y → ⊥) → bytes_eq x y ≡ false
-text_apart x y n = go (bytes_eq x y) refl
-  where
-    go : (b : Bool) → bytes_eq x y ≡ b → bytes_eq x y ≡ false
-    go true e = absurd (n (text_is x y e))
-    go false e = e
-
-apart_text : (x y : List ℕ) → bytes_eq x y ≡ false → x ≡ y → ⊥
-apart_text x y n e = clash n (subst (λ z. bytes_eq x z ≡ true) e (text_self x))
-
-unrepeated : (b : Bool) (f : Fault) (fs : List Fault) → cond b (f ∷ []) fs ≡ [] → (b ≡ false) × (fs ≡ [])
-unrepeated true f fs e = faulty e
-unrepeated false f fs e = (refl, e)
+use Rattle.reading.proofs.Clean.{took, takes, bound_of, binds, tested, passes, fails, stopped, done, ends, added, adds, undrawn, front_none, clash}
+use Rattle.reading.proofs.OfKinds.{same_is, seen, not_same, name_is_not, one_as, one_is, word_right, key_right, colon_right, str_right, classed}
+use Rattle.reading.proofs.Lists.{Follow, Element, curly, braced_sound, braced_complete}
 
 module _ (text : List ℕ) where
-  -- the keys before differ from the text x; from each of the keys ks
-  abbrev Clear : List Attribute → List ℕ → Type 0
-  Clear [] x = Unit {0}
-  Clear (b ∷ before) x = (key_text text b ≡ x → ⊥) × Clear before x
-
+  -- the keys before differ from each of the keys ks
   abbrev AllApart : List Attribute → List (List ℕ) → Type 0
   AllApart [] ks = Unit {0}
   AllApart (b ∷ before) ks = Apart (key_text text b) ks × AllApart before ks
 
-  clear_of : (before : List Attribute) (a : Attribute) → repeated text before a ≡ [] → Clear before (key_text text a)
-  unfolding repeated
-  clear_of [] a e = tt
-  clear_of (b ∷ before) a e =
-      let p = unrepeated (bytes_eq (key_text text b) (key_text text a)) _ _ e in
-      (apart_text (key_text text b) (key_text text a) p.0, clear_of before a p.1)
+  none : (before : List Attribute) → AllApart before []
+  none [] = tt
+  none (b ∷ before) = (apart_none, none before)
 
-  of_clear : (before : List Attribute) (a : Attribute) → Clear before (key_text text a) → repeated text before a ≡ []
+  -- one key more
+  longer : (before : List Attribute) (a : Attribute) (ks : List (List ℕ)) → repeated text before a ≡ [] → AllApart before ks → AllApart before (key_text text a ∷ ks)
   unfolding repeated
-  of_clear [] a c = refl
-  of_clear (b ∷ before) a c = rw (text_apart (key_text text b) (key_text text a) c.0) (of_clear before a c.1)
-
-  both : (before : List Attribute) (x : List ℕ) (ks : List (List ℕ)) → Clear before x → AllApart before ks → AllApart before (x ∷ ks)
-  both [] x ks c d = tt
-  both (b ∷ before) x ks c d = (apart_more c.0 d.0, both before x ks c.1 d.1)
+  longer [] a ks e d = tt
+  longer (b ∷ before) a ks e d =
+      let p = undrawn (bytes_eq (key_text text b) (key_text text a)) _ _ e in
+      (apart_more (λ q. both_ways _ p.0 ((bytes_eq-Decides (key_text text b) (key_text text a)).1 q)) d.0, longer before a ks p.1 d.1)
 
   apart_first : {y x : List ℕ} {ks : List (List ℕ)} → Apart y (x ∷ ks) → (y ≡ x → ⊥) × Apart y ks
   apart_first (apart_more n d) = (n, d)
 
-  first : (before : List Attribute) (x : List ℕ) (ks : List (List ℕ)) → AllApart before (x ∷ ks) → Clear before x × AllApart before ks
-  first [] x ks d = (tt, tt)
-  first (b ∷ before) x ks d =
+  shorter : (before : List Attribute) (a : Attribute) (ks : List (List ℕ)) → AllApart before (key_text text a ∷ ks) → (repeated text before a ≡ []) × AllApart before ks
+  unfolding repeated
+  shorter [] a ks d = (refl, tt)
+  shorter (b ∷ before) a ks d =
       let p = apart_first d.0 in
-      let q = first before x ks d.1 in ((p.0, q.0), (p.1, q.1))
+      let q = shorter before a ks d.1 in
+      (rw (false_from_ne_true _ (λ e. p.0 ((bytes_eq-Decides (key_text text b) (key_text text a)).0 e))) q.0, (p.1, q.1))
 
   distinct_of : (before l : List Attribute) → repeats text before l ≡ [] → AllApart before (keys text l) × Distinct (keys text l)
   unfolding repeats
   distinct_of before [] e = (none before, distinct_none)
-    where
-      none : (before : List Attribute) → AllApart before []
-      none [] = tt
-      none (b ∷ before) = (apart_none, none before)
   distinct_of before (a ∷ l) e =
       let p = front_none _ _ e in
-      let q = distinct_of (a ∷ before) l p.1 in
-      (both before (key_text text a) (keys text l) (clear_of before a p.0) q.0.1, distinct_more q.0.0 q.1)
+      let q = distinct_of (a ∷ before) l p.1 in (longer before a (keys text l) p.0 q.0.1, distinct_more q.0.0 q.1)
 
   of_distinct : (before l : List Attribute) → AllApart before (keys text l) → Distinct (keys text l) → repeats text before l ≡ []
   unfolding repeats
   of_distinct before [] d u = refl
   of_distinct before (a ∷ l) d (distinct_more n u) =
-      let p = first before (key_text text a) (keys text l) d in
-      rw (of_clear before a p.0) (of_distinct (a ∷ before) l (n, p.1) u)
+      let p = shorter before a (keys text l) d in rw p.0 (of_distinct (a ∷ before) l (n, p.1) u)
 
 -- one attribute
-attr_sound : (e : ℕ) (ts : List Token) (a : Attribute) (rest : List Token) → Cleanly (reader.attribute e ts) a rest → OneAttribute ts a rest
-unfolding reader.attribute
-attr_sound e ts a rest y =
-    took e ts key_right y λ k e₁ m r y₁. took e₁ m colon_right y₁ λ c e₂ n s y₂. took e₂ n (str_right NoString) y₂ λ v e₃ q s' y₃.
-    done (λ a q. OneAttribute ts a q) y₃ (λ _. attribute r s s')
-
-attr_complete : (e : ℕ) (ts : List Token) (a : Attribute) (rest : List Token) → OneAttribute ts a rest → Follow RCurly rest → Cleanly (reader.attribute e ts) a rest
-unfolding reader.attribute
-attr_complete e ts a rest d f = go e d
+elements : Element RCurly reader.attribute OneAttribute
+unfolding reader.attribute closes next
+elements = record { sound = sound; complete = complete; starts = starts }
   where
-    go : (e : ℕ) {ts : List Token} {a : Attribute} {rest : List Token} → OneAttribute ts a rest → Cleanly (reader.attribute e ts) a rest
-    go e (attribute r s s') = takes e _ key_right r λ e₁. takes e₁ _ colon_right s λ e₂. takes e₂ _ (str_right NoString) s' λ e₃. ends
+    sound : (e : ℕ) {ts : List Token} {a : Attribute} {rest : List Token} → Cleanly (reader.attribute e ts) a rest → OneAttribute ts a rest
+    sound e {ts = ts} y =
+        took e ts key_right y λ k e₁ m r y₁. took e₁ m colon_right y₁ λ c e₂ n s y₂. took e₂ n (str_right NoString) y₂ λ v e₃ q s' y₃.
+        done (OneAttribute ts) y₃ (λ _. attribute r s s')
 
-key_starts : {ts rest : List Token} {t : Token} → Key ts t rest → closes RCurly ts ≡ false
-unfolding closes next
-key_starts (one {t = t} (inl h)) = let p = name_is_not t.kind h in or_from _ _ p.rcurly (or_from _ _ p.eof p.undetermined)
-key_starts (one {t = t} (inr h)) = or_from _ _ (seen RCurly h refl) (or_from _ _ (seen Eof h refl) (seen Undetermined h refl))
+    complete : (e : ℕ) {ts : List Token} {a : Attribute} {rest : List Token} → OneAttribute ts a rest → Follow RCurly rest → Cleanly (reader.attribute e ts) a rest
+    complete e (attribute r s s') f = takes e _ key_right r λ e₁. takes e₁ _ colon_right s λ e₂. takes e₂ _ (str_right NoString) s' λ e₃. ends
 
-attr_starts : (ts : List Token) (a : Attribute) (rest : List Token) → OneAttribute ts a rest → closes RCurly ts ≡ false
-attr_starts ts a rest d = go d
-  where
-    go : {ts : List Token} {a : Attribute} {rest : List Token} → OneAttribute ts a rest → closes RCurly ts ≡ false
-    go (attribute k s s') = key_starts k
+    starts : {ts : List Token} {a : Attribute} {rest : List Token} → OneAttribute ts a rest → closes RCurly ts ≡ false
+    starts (attribute (one {t = t} (inl h)) s s') = let p = name_is_not t.kind h in or_from _ _ p.rcurly (or_from _ _ p.eof p.undetermined)
+    starts (attribute (one (inr h)) s s') = or_from _ _ (seen RCurly h refl) (or_from _ _ (seen Eof h refl) (seen Undetermined h refl))
 
 -- the keyword before them
 pub keyword : (t : Token) → attributes_follow t ≡ true → (is_keyword t.kind ≡ true) × (eqb (number Eof) (number t.kind) ≡ false)
 unfolding attributes_follow
 keyword t h = elim (or_cases _ _ h) [
-  | inl p ↦ of With with_is_keyword refl (same_is t.kind With p)
-  | inr p ↦ of Assert assert_is_keyword refl (same_is t.kind Assert (and_parts _ _ p).0)
+  | inl p ↦ let q = same_is t.kind With p in (rw q classed.with_keyword, rw q refl)
+  | inr p ↦ let q = same_is t.kind Assert (and_parts _ _ p).0 in (rw q classed.assert_keyword, rw q refl)
 ]
-  where
-    of : (k : Kind) → is_keyword k ≡ true → eqb (number Eof) (number k) ≡ false → t.kind ≡ k → (is_keyword t.kind ≡ true) × (eqb (number Eof) (number t.kind) ≡ false)
-    of k h z q = (ap is_keyword q ∙ h, ap (λ x. eqb (number Eof) (number x)) q ∙ z)
 
 unescaped_word : {ts m : List Token} {k : Token} → One (λ t. t.escaped ≡ false) ts k m → Word (next ts).kind ts k m
 unfolding next
@@ -150,7 +100,7 @@ module _ (w : Setting) (text : List ℕ) where
   attributes_sound e ts y = tested y
       (λ h y₁. let q = keyword (next ts) h in
       took e ts (word_right (next ts).kind q.0 q.1) y₁ λ k e₁ m r y₂. bound_of (braced reader.attribute RCurly w.attributes e₁ m) y₂ λ l e₂ n z y₃.
-      let d = braced_sound reader.attribute OneAttribute RCurly close_right refl attr_sound attr_complete attr_starts w.attributes e₁ m z in
+      let d = braced_sound curly elements w.attributes e₁ m z in
       added y₃ λ f y₄. done Goal y₄ (λ _. (some_attributes h (one_as r (one_is r).1) d.0 (distinct_of text [] l f).1, d.1)))
       (λ h y₁. done Goal y₁ (λ _. (no_attributes h, omega arith)))
     where
@@ -164,7 +114,7 @@ module _ (w : Setting) (text : List ℕ) where
   attributes_complete e (some_attributes {ts = ts} {l = l} h k d u) f =
       let q = keyword (next ts) h in
       passes _ h (takes e _ (word_right (next ts).kind q.0 q.1) (unescaped_word k) λ e₁.
-      binds _ (braced_complete reader.attribute OneAttribute RCurly close_right refl attr_sound attr_complete attr_starts w.attributes e₁ d f) λ e₂.
+      binds _ (braced_complete curly elements w.attributes e₁ d f) λ e₂.
       adds (of_distinct text [] l tt u) ends)
 
 -- the end

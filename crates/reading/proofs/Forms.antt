@@ -1,6 +1,6 @@
 -- The eight forms of an import.
-use Rattle.std.proofs.Common.{◌≡◌, ℕ, ◌-◌, ◌≤◌, Bool, true, false, eqb, List, [], length, Some, None, Option, refl, ap, ◌∙◌, arith}
-use Rattle.std.proofs.lemmas.Bool.{and_parts, and_right, and_from}
+use Rattle.std.proofs.Common.{◌≡◌, ℕ, ◌≤◌, Bool, true, false, eqb, List, [], length, Some, None, Option, inl, inr, refl, ap, ◌∙◌, arith}
+use Rattle.std.proofs.lemmas.Bool.{cases_Bool, and_parts, and_right, and_from}
 use Rattle.kinds.specs.declared.kind.Kind.{Kind}
 use Rattle.kinds.specs.declared.kind.Kind.TheVariants.{Str, From, As, Star, LCurly, RCurly, Comma, Eq, Defer, Source}
 use Rattle.kinds.specs.Numbers.{number, same}
@@ -14,72 +14,47 @@ use Rattle.reading.specs.Ahead.{next, at}
 use Rattle.reading.specs.Settings.{Setting}
 use Rattle.reading.specs.Readings.{Starred, Form, import_rows}
 use Rattle.reading.specs.Grammar.{one, Sign, Word, B, ImportSpecifier, Braces, empty, full, StarAs, star_as, FromS, from_s, ImportForm, bare, default, default_star, default_braces, star, braces, defer_star, source_of}
-use Rattle.reading.specs.Steps.{test, esc}
+use Rattle.reading.specs.Steps.{esc}
 use Rattle.reading.specs.Braces.{braced}
 use Rattle.reading.specs.Imports.{specifier, from_source, star_alias, star_with_source, braces_with_source, starred, listed, room_by, via_star, via_braces, after_default, after_defer, after_source_name, after_source, after_binding, form}
 use Rattle.reading.specs.Main.{Cleanly}
 use Rattle.reading.proofs.Clean.{Right, took, takes, bound_of, binds, tested, passes, fails, stopped_at, done, ends, added, adds, faulty, clash}
-use Rattle.reading.proofs.OfKinds.{same_is, seen, esc_is, esc_none, one_as, one_is, binding_is_not, from_is_binding, defer_is_binding, source_is_binding, comma_is_not, from_is_keyword, defer_is_keyword, source_is_keyword, comma_right, star_right, as_right, from_right, str_right, binding_right, sign_at, word_at}
-use Rattle.reading.proofs.Specifiers.{specifiers_sound, specifiers_complete}
+use Rattle.reading.proofs.OfKinds.{same_is, seen, esc_is, esc_none, one_as, one_is, binding_is_not, comma_right, star_right, as_right, from_right, str_right, binding_right, sign_at, word_at, classed}
+use Rattle.reading.proofs.Lists.{curly, braced_sound, braced_complete}
+use Rattle.reading.proofs.Specifiers.{specifiers}
 
 -- from S, and Star as B
 pub source_right : Right from_source FromS
 unfolding from_source
-source_right = record { sound = λ e ts a rest y. go e ts y; complete = λ e ts a rest h. back e h }
+source_right = record { sound = sound; complete = complete }
   where
-    go : (e : ℕ) (ts : List Token) {a : Token} {rest : List Token} → Cleanly (from_source e ts) a rest → FromS ts a rest
-    go e ts y = took e ts from_right y λ k e₁ m w y₁. from_s w ((str_right Unexpected).sound e₁ m _ _ y₁)
+    sound : (e : ℕ) {ts : List Token} {a : Token} {rest : List Token} → Cleanly (from_source e ts) a rest → FromS ts a rest
+    sound e {ts = ts} y = took e ts from_right y λ k e₁ m w y₁. from_s w ((str_right Unexpected).sound e₁ y₁)
 
-    back : (e : ℕ) {ts : List Token} {a : Token} {rest : List Token} → FromS ts a rest → Cleanly (from_source e ts) a rest
-    back e (from_s w s) = takes e _ from_right w λ e₁. (str_right Unexpected).complete e₁ _ _ _ s
+    complete : (e : ℕ) {ts : List Token} {a : Token} {rest : List Token} → FromS ts a rest → Cleanly (from_source e ts) a rest
+    complete e (from_s w s) = takes e _ from_right w λ e₁. (str_right Unexpected).complete e₁ s
 
 stars_right : Right star_alias StarAs
 unfolding star_alias
-stars_right = record { sound = λ e ts a rest y. go e ts y; complete = λ e ts a rest h. back e h }
+stars_right = record { sound = sound; complete = complete }
   where
-    go : (e : ℕ) (ts : List Token) {a : Starred} {rest : List Token} → Cleanly (star_alias e ts) a rest → StarAs ts a rest
-    go e ts y = took e ts star_right y λ s e₁ m r y₁. took e₁ m as_right y₁ λ k e₂ n w y₂. took e₂ n (binding_right Unexpected) y₂ λ b e₃ q r' y₃.
-        done (λ a q. StarAs ts a q) y₃ (λ _. star_as r w r')
+    sound : (e : ℕ) {ts : List Token} {a : Starred} {rest : List Token} → Cleanly (star_alias e ts) a rest → StarAs ts a rest
+    sound e {ts = ts} y = took e ts star_right y λ s e₁ m r y₁. took e₁ m as_right y₁ λ k e₂ n w y₂. took e₂ n (binding_right Unexpected) y₂ λ b e₃ q r' y₃.
+        done (StarAs ts) y₃ (λ _. star_as r w r')
 
-    back : (e : ℕ) {ts : List Token} {a : Starred} {rest : List Token} → StarAs ts a rest → Cleanly (star_alias e ts) a rest
-    back e (star_as s k b) = takes e _ star_right s λ e₁. takes e₁ _ as_right k λ e₂. takes e₂ _ (binding_right Unexpected) b λ e₃. ends
+    complete : (e : ℕ) {ts : List Token} {a : Starred} {rest : List Token} → StarAs ts a rest → Cleanly (star_alias e ts) a rest
+    complete e (star_as s k b) = takes e _ star_right s λ e₁. takes e₁ _ as_right k λ e₂. takes e₂ _ (binding_right Unexpected) b λ e₃. ends
 
-data StarFrom : List Token → Starred × Token → List Token → Type 0 where
-  star_from : {ts m rest : List Token} {c : Starred} {s : Token} → StarAs ts c m → FromS m s rest → StarFrom ts (c, s) rest
-
-star_from_right : Right star_with_source StarFrom
-unfolding star_with_source
-star_from_right = record { sound = λ e ts a rest y. go e ts y; complete = λ e ts a rest h. back e h }
-  where
-    go : (e : ℕ) (ts : List Token) {a : Starred × Token} {rest : List Token} → Cleanly (star_with_source e ts) a rest → StarFrom ts a rest
-    go e ts y = took e ts stars_right y λ c e₁ m r y₁. took e₁ m source_right y₁ λ s e₂ n r' y₂. done (λ a q. StarFrom ts a q) y₂ (λ _. star_from r r')
-
-    back : (e : ℕ) {ts : List Token} {a : Starred × Token} {rest : List Token} → StarFrom ts a rest → Cleanly (star_with_source e ts) a rest
-    back e (star_from c s) = takes e _ stars_right c λ e₁. takes e₁ _ source_right s λ e₂. ends
-
-data BracesFrom (room : ℕ) : List Token → List Specifier × Token → List Token → Type 0 where
-  braces_from : {ts m rest : List Token} {l : List Specifier} {s : Token}
-      → Braces ImportSpecifier RCurly ts l m → length l ≤ room → FromS m s rest → BracesFrom room ts (l, s) rest
-
-braces_from_right : (room : ℕ) → Right (braces_with_source room) (BracesFrom room)
-unfolding braces_with_source
-braces_from_right room = record { sound = λ e ts a rest y. go e ts y; complete = λ e ts a rest h. back e h }
-  where
-    go : (e : ℕ) (ts : List Token) {a : List Specifier × Token} {rest : List Token} → Cleanly (braces_with_source room e ts) a rest → BracesFrom room ts a rest
-    go e ts y = bound_of (braced specifier RCurly room e ts) y λ l e₁ m z y₁. let d = specifiers_sound room e ts z in
-        took e₁ m source_right y₁ λ s e₂ n r y₂. done (λ a q. BracesFrom room ts a q) y₂ (λ _. braces_from d.0 d.1 r)
-
-    back : (e : ℕ) {ts : List Token} {a : List Specifier × Token} {rest : List Token} → BracesFrom room ts a rest → Cleanly (braces_with_source room e ts) a rest
-    back e (braces_from d h s) = binds _ (specifiers_complete room e d h) λ e₁. takes e₁ _ source_right s λ e₂. ends
-
+-- where these make a form
 via_star_lem : (ph : Phase) (d : Option Token) (e : ℕ) (ts : List Token) {a : Form} {rest : List Token} (P : Form → List Token → Type 0)
-    → Cleanly (via_star ph d e ts) a rest → ((p : Starred × Token) (n : List Token) → StarFrom ts p n → P (starred ph d p) n) → P a rest
-unfolding via_star
-via_star_lem ph d e ts P y k = took e ts star_from_right y λ p e₁ n r y₁. done P y₁ (λ _. k p n r)
+    → Cleanly (via_star ph d e ts) a rest → ((c : Starred) (s : Token) (m n : List Token) → StarAs ts c m → FromS m s n → P (starred ph d (c, s)) n) → P a rest
+unfolding via_star star_with_source
+via_star_lem ph d e ts P y k = bound_of (star_with_source e ts) y λ p e₁ n z y₁. done P y₁ (λ _.
+    took e ts stars_right z λ c e₂ m r z₁. took e₂ m source_right z₁ λ s e₃ o r' z₂. done (λ p n. P (starred ph d p) n) z₂ (λ _. k c s m o r r'))
 
-star_via : (ph : Phase) (d : Option Token) (e : ℕ) {ts n : List Token} {p : Starred × Token} → StarFrom ts p n → Cleanly (via_star ph d e ts) (starred ph d p) n
-unfolding via_star
-star_via ph d e r = takes e _ star_from_right r λ e₁. ends
+star_via : (ph : Phase) (d : Option Token) (e : ℕ) {ts m n : List Token} {c : Starred} {s : Token} → StarAs ts c m → FromS m s n → Cleanly (via_star ph d e ts) (starred ph d (c, s)) n
+unfolding via_star star_with_source
+star_via ph d e r r' = binds _ (takes e _ stars_right r λ e₁. takes e₁ _ source_right r' λ e₂. ends) λ e₃. ends
 
 -- what is next
 pub from_at : {ts m : List Token} {s : Token} {v : Bool} (c : Kind) → FromS ts s m → eqb (number From) (number c) ≡ v → at c ts ≡ v
@@ -99,7 +74,7 @@ at_binding (one h) = h
 
 comma_binding : {ts m : List Token} {t : Token} → Sign Comma ts t m → is_binding (next ts).kind ≡ false
 unfolding next
-comma_binding (one h) = ap is_binding h ∙ comma_is_not
+comma_binding (one h) = ap is_binding h ∙ classed.comma_unbound
 
 -- keywords
 keyword_binding : {k : Kind} {ts m : List Token} {t : Token} → Word k ts t m → is_binding k ≡ true → B ts t m
@@ -120,43 +95,29 @@ unescaped t k q h n = esc_is t (ap is_keyword q ∙ h) n
 
 module _ (w : Setting) where
   via_braces_lem : (ph : Phase) (d : Option Token) (e : ℕ) (ts : List Token) {a : Form} {rest : List Token} (P : Form → List Token → Type 0)
-      → Cleanly (via_braces w ph d e ts) a rest → ((p : List Specifier × Token) (n : List Token) → BracesFrom (room_by w d) ts p n → P (listed ph d p) n) → P a rest
-  unfolding via_braces
-  via_braces_lem ph d e ts P y k = took e ts (braces_from_right (room_by w d)) y λ p e₁ n r y₁. done P y₁ (λ _. k p n r)
+      → Cleanly (via_braces w ph d e ts) a rest
+      → ((l : List Specifier) (s : Token) (m n : List Token) → Braces ImportSpecifier RCurly ts l m → length l ≤ room_by w d → FromS m s n → P (listed ph d (l, s)) n) → P a rest
+  unfolding via_braces braces_with_source
+  via_braces_lem ph d e ts P y k = bound_of (braces_with_source (room_by w d) e ts) y λ p e₁ n z y₁. done P y₁ (λ _.
+      bound_of (braced specifier RCurly (room_by w d) e ts) z λ l e₂ m x z₁. let r = braced_sound curly specifiers (room_by w d) e ts x in
+      took e₂ m source_right z₁ λ s e₃ o r' z₂. done (λ p n. P (listed ph d p) n) z₂ (λ _. k l s m o r.0 r.1 r'))
 
-  braces_via : (ph : Phase) (d : Option Token) (e : ℕ) {ts n : List Token} {p : List Specifier × Token} → BracesFrom (room_by w d) ts p n
-      → Cleanly (via_braces w ph d e ts) (listed ph d p) n
-  unfolding via_braces
-  braces_via ph d e r = takes e _ (braces_from_right (room_by w d)) r λ e₁. ends
+  braces_via : (ph : Phase) (d : Option Token) (e : ℕ) {ts m n : List Token} {l : List Specifier} {s : Token}
+      → Braces ImportSpecifier RCurly ts l m → length l ≤ room_by w d → FromS m s n → Cleanly (via_braces w ph d e ts) (listed ph d (l, s)) n
+  unfolding via_braces braces_with_source
+  braces_via ph d e r h r' = binds _ (binds _ (braced_complete curly specifiers (room_by w d) e r h) λ e₁. takes e₁ _ source_right r' λ e₂. ends) λ e₃. ends
 
   -- a form, and that its rows have room
   abbrev Fit : List Token → Form → List Token → Type 0
   Fit ts f rest = ImportForm ts f rest × (length (import_rows f) ≤ w.names)
 
-  star_of : {ts rest : List Token} {p : Starred × Token} → StarFrom ts p rest → Fit ts (starred phase.Evaluation None p) rest
-  star_of (star_from c s) = (star c s, omega (arith, w.two))
-
-  defer_of : {ts m rest : List Token} {d : Token} {p : Starred × Token} → Word Defer ts d m → StarFrom m p rest → Fit ts (starred phase.Defer None p) rest
-  defer_of v (star_from c s) = (defer_star v c s, omega (arith, w.two))
-
-  default_star_of : {ts m n rest : List Token} {b k : Token} {p : Starred × Token} → B ts b m → Sign Comma m k n → StarFrom n p rest
-      → Fit ts (starred phase.Evaluation (Some b) p) rest
-  default_star_of r s (star_from c s') = (default_star r s c s', w.two)
-
-  braces_of : {ts rest : List Token} {p : List Specifier × Token} → BracesFrom w.names ts p rest → Fit ts (listed phase.Evaluation None p) rest
-  braces_of (braces_from d h s) = (braces d s, h)
-
-  default_braces_of : {ts m n rest : List Token} {b k : Token} {p : List Specifier × Token} → B ts b m → Sign Comma m k n → BracesFrom (w.names - 1) n p rest
-      → Fit ts (listed phase.Evaluation (Some b) p) rest
-  default_braces_of r s (braces_from d h s') = (default_braces r s d s', omega (arith, w.two))
-
   default_sound : (b : Token) (ts m : List Token) (e : ℕ) {f : Form} {rest : List Token} → B ts b m → Cleanly (after_default w phase.Evaluation b e m) f rest → Fit ts f rest
   unfolding after_default
   default_sound b ts m e r y = tested y
       (λ _ y₁. took e m comma_right y₁ λ k e₁ n s y₂. tested y₂
-      (λ _ y₃. via_star_lem phase.Evaluation (Some b) e₁ n (Fit ts) y₃ (λ p q d. default_star_of r s d))
+      (λ _ y₃. via_star_lem phase.Evaluation (Some b) e₁ n (Fit ts) y₃ (λ c t o q d d'. (default_star r s d d', w.two)))
       (λ _ y₃. tested y₃
-      (λ _ y₄. via_braces_lem phase.Evaluation (Some b) e₁ n (Fit ts) y₄ (λ p q d. default_braces_of r s d))
+      (λ _ y₄. via_braces_lem phase.Evaluation (Some b) e₁ n (Fit ts) y₄ (λ l t o q d h d'. (default_braces r s d d', omega (arith, w.two))))
       (λ _ y₄. stopped_at Unexpected e₁ n y₄)))
       (λ _ y₁. took e m source_right y₁ λ s e₁ n d y₂. done (Fit ts) y₂ (λ _. (default r d, omega (arith, w.two))))
 
@@ -164,7 +125,7 @@ module _ (w : Setting) where
       → B ts b m → b.kind ≡ Defer → Cleanly (after_defer w b e m) f rest → Fit ts f rest
   unfolding after_defer
   defer_sound b ts m e r k y = tested y
-      (λ _ y₁. added y₁ λ n y₂. via_star_lem phase.Defer None e m (Fit ts) y₂ (λ p q d. defer_of (one_as r (k, unescaped b Defer k defer_is_keyword n)) d))
+      (λ _ y₁. added y₁ λ n y₂. via_star_lem phase.Defer None e m (Fit ts) y₂ (λ c s o q d d'. (defer_star (one_as r (k, unescaped b Defer k classed.defer_keyword n)) d d', omega (arith, w.two))))
       (λ _ y₁. tested y₁ (λ _ y₂. added y₂ λ n _. faulty n)
       (λ _ y₂. tested y₂ (λ _ y₃. default_sound b ts m e r y₃)
       (λ _ y₃. tested y₃ (λ _ y₄. default_sound b ts m e r y₄)
@@ -177,9 +138,9 @@ module _ (w : Setting) where
       (λ _ y₁. took e m (binding_right Unexpected) y₁ λ c e₁ n d y₂. tested y₂
       (λ h y₃. added y₃ λ u y₄. took e₁ n (str_right Unexpected) y₄ λ s e₂ q d' y₅. done (Fit ts) y₅
       (λ _. let j = same_is c.kind From (and_parts _ _ h).0 in
-      (default r (from_s (one_as d (j, unescaped c From j from_is_keyword u)) d'), omega (arith, w.two))))
+      (default r (from_s (one_as d (j, unescaped c From j classed.from_keyword u)) d'), omega (arith, w.two))))
       (λ _ y₃. added y₃ λ u y₄. took e₁ n source_right y₄ λ s e₂ q d' y₅. done (Fit ts) y₅
-      (λ _. (source_of (one_as r (k, unescaped b Source k source_is_keyword u)) d d', omega (arith, w.two)))))
+      (λ _. (source_of (one_as r (k, unescaped b Source k classed.source_keyword u)) d d', omega (arith, w.two)))))
       (λ _ y₁. tested y₁ (λ _ y₂. added y₂ λ n _. faulty n)
       (λ _ y₂. tested y₂ (λ _ y₃. added y₃ λ n _. faulty n) (λ _ y₃. default_sound b ts m e r y₃)))
 
@@ -187,8 +148,8 @@ module _ (w : Setting) where
   unfolding form after_binding
   form_sound e ts y = tested y
       (λ _ y₁. took e ts (str_right Unexpected) y₁ λ s e₁ m r y₂. done (Fit ts) y₂ (λ _. (bare r, omega arith)))
-      (λ _ y₁. tested y₁ (λ _ y₂. via_star_lem phase.Evaluation None e ts (Fit ts) y₂ (λ p q d. star_of d))
-      (λ _ y₂. tested y₂ (λ _ y₃. via_braces_lem phase.Evaluation None e ts (Fit ts) y₃ (λ p q d. braces_of d))
+      (λ _ y₁. tested y₁ (λ _ y₂. via_star_lem phase.Evaluation None e ts (Fit ts) y₂ (λ c s m q d d'. (star d d', omega (arith, w.two))))
+      (λ _ y₂. tested y₂ (λ _ y₃. via_braces_lem phase.Evaluation None e ts (Fit ts) y₃ (λ l s m q d h d'. (braces d d', h)))
       (λ _ y₃. took e ts (binding_right Expected) y₃ λ b e₁ m r y₄. tested y₄ (λ _ y₅. stopped_at Foreign e₁ m y₅)
       (λ _ y₅. tested y₅ (λ h y₆. defer_sound b ts m e₁ r (same_is b.kind Defer h) y₆)
       (λ _ y₆. tested y₆ (λ h y₇. source_sound b ts m e₁ r (same_is b.kind Source h) y₇)
@@ -201,15 +162,15 @@ module _ (w : Setting) where
       → ((e : ℕ) → same b.kind Defer ≡ false → same b.kind Source ≡ false → Cleanly (after_default w phase.Evaluation b e m) f rest)
       → Cleanly (form w e ts) f rest
   unfolding form after_binding next
-  led e {m = m} {f = f} {rest = rest} (one {t = b} h) q d s k =
+  led e (one {t = b} h) q d s k =
       fails _ (binding_is_not b.kind h).str (fails _ (binding_is_not b.kind h).star (fails _ (binding_is_not b.kind h).lcurly
-      (takes e _ (binding_right Expected) (one h) λ e₁. fails _ q (which e₁ (same b.kind Defer) (same b.kind Source) refl refl))))
-    where
-      which : (e : ℕ) (u v : Bool) → same b.kind Defer ≡ u → same b.kind Source ≡ v
-          → Cleanly (test (same b.kind Defer) (after_defer w b e m) (test (same b.kind Source) (after_source w b e m) (after_default w phase.Evaluation b e m))) f rest
-      which e true v i j = passes _ i (d e i)
-      which e false true i j = fails _ i (passes _ j (s e j))
-      which e false false i j = fails _ i (fails _ j (k e i j))
+      (takes e _ (binding_right Expected) (one h) λ e₁. fails _ q (elim (cases_Bool (same b.kind Defer)) [
+        | inl i ↦ passes _ i (d e₁ i)
+        | inr i ↦ fails _ i (elim (cases_Bool (same b.kind Source)) [
+          | inl j ↦ passes _ j (s e₁ j)
+          | inr j ↦ fails _ j (k e₁ i j)
+        ])
+      ]))))
 
   -- a default before a Comma is one, whatever its kind
   comma_led : (e : ℕ) {ts m n : List Token} {b c : Token} {f : Form} {rest : List Token} → B ts b m → Sign Comma m c n
@@ -230,22 +191,22 @@ module _ (w : Setting) where
   form_complete e (bare s) h = passes _ (sign_at Str s refl) (takes e _ (str_right Unexpected) s λ e₁. ends)
   form_complete e (default {b = b} r (from_s v s)) h = led e r (from_at Eq (from_s v s) refl)
       (λ e _. fails _ (from_at Star (from_s v s) refl) (fails _ (from_at LCurly (from_s v s) refl) (passes _ (from_at From (from_s v s) refl) (default_complete b e (from_s v s)))))
-      (λ e _. passes _ (at_binding (keyword_binding v from_is_binding)) (takes e _ (binding_right Unexpected) (keyword_binding v from_is_binding) λ e₁.
+      (λ e _. passes _ (at_binding (keyword_binding v classed.from_binds)) (takes e _ (binding_right Unexpected) (keyword_binding v classed.from_binds) λ e₁.
       passes _ (and_from _ _ (word_same From v refl) (sign_at Str s refl)) (adds (word_esc v) (takes e₁ _ (str_right Unexpected) s λ e₂. ends))))
       (λ e _ _. default_complete b e (from_s v s))
   form_complete e (default_star {b = b} r s d d') h = comma_led e r s λ e.
-      passes _ (sign_at Comma s refl) (takes e _ comma_right s λ e₁. passes _ (star_at Star d refl) (star_via phase.Evaluation (Some b) e₁ (star_from d d')))
+      passes _ (sign_at Comma s refl) (takes e _ comma_right s λ e₁. passes _ (star_at Star d refl) (star_via phase.Evaluation (Some b) e₁ d d'))
   form_complete e (default_braces {b = b} r s d d') h = comma_led e r s λ e.
       passes _ (sign_at Comma s refl) (takes e _ comma_right s λ e₁. fails _ (braces_at Star d refl)
-      (passes _ (braces_at LCurly d refl) (braces_via phase.Evaluation (Some b) e₁ (braces_from d (omega (arith, w.two)) d'))))
-  form_complete e (star d d') h = fails _ (star_at Str d refl) (passes _ (star_at Star d refl) (star_via phase.Evaluation None e (star_from d d')))
+      (passes _ (braces_at LCurly d refl) (braces_via phase.Evaluation (Some b) e₁ d (omega (arith, w.two)) d')))
+  form_complete e (star d d') h = fails _ (star_at Str d refl) (passes _ (star_at Star d refl) (star_via phase.Evaluation None e d d'))
   form_complete e (braces d d') h =
-      fails _ (braces_at Str d refl) (fails _ (braces_at Star d refl) (passes _ (braces_at LCurly d refl) (braces_via phase.Evaluation None e (braces_from d h d'))))
-  form_complete e (defer_star v d d') h = led e (keyword_binding v defer_is_binding) (star_at Eq d refl)
-      (λ e _. passes _ (star_at Star d refl) (adds (word_esc v) (star_via phase.Defer None e (star_from d d'))))
+      fails _ (braces_at Str d refl) (fails _ (braces_at Star d refl) (passes _ (braces_at LCurly d refl) (braces_via phase.Evaluation None e d h d')))
+  form_complete e (defer_star v d d') h = led e (keyword_binding v classed.defer_binds) (star_at Eq d refl)
+      (λ e _. passes _ (star_at Star d refl) (adds (word_esc v) (star_via phase.Defer None e d d')))
       (λ e j. clash (word_same Source v refl) j)
       (λ e i _. clash i (word_same Defer v refl))
-  form_complete e (source_of v b d) h = led e (keyword_binding v source_is_binding) (binding_at_eq b)
+  form_complete e (source_of v b d) h = led e (keyword_binding v classed.source_binds) (binding_at_eq b)
       (λ e i. clash (word_same Defer v refl) i)
       (λ e _. passes _ (at_binding b) (takes e _ (binding_right Unexpected) b λ e₁.
       fails _ (and_right _ _ (from_at Str d refl)) (adds (word_esc v) (takes e₁ _ source_right d λ e₂. ends))))

@@ -5,11 +5,10 @@ mod Specifiers
 mod Forms
 mod Attrs
 mod OfExports
-mod Fronts
-mod Whole
-mod OfWorked
 mod Local
 mod OfReaders
-mod OfLaws
-mod Takes
-mod OfRuns
+pub mod OfLaws
+pub mod Whole
+pub mod OfRuns
+pub mod Takes
+pub mod OfWorked

@@ -1,6 +1,8 @@
 -- Readers by what they take and look at: what is taken stands at the front, and the answer hangs on nothing behind
 -- the token come to.
-use Rattle.std.proofs.Common.{◌≡◌, ℕ, Bool, true, false, leb, List, [], ◌∷◌, ◌++◌, length, sym, refl, ap, ◌∙◌, subst, append_assoc}
+use Rattle.std.proofs.Common.{◌≡◌, ℕ, Bool, true, false, leb, List, [], ◌∷◌, ◌++◌, length, sym, refl, ap, ◌∙◌, subst, append_assoc, inl, inr}
+use Rattle.std.proofs.lemmas.Bool.{cases_Bool}
+use Rattle.std.proofs.lemmas.List.{append-nil}
 use Rattle.lexer.specs.declared.token.Token.{Token}
 use Rattle.lexer.specs.declared.token.Span.{Span}
 use Rattle.lexer.specs.Tokens.{ended}
@@ -74,15 +76,11 @@ module _ (site : Site) where
   local_got a e ts = taken [] ts (λ m' s. refl)
 
   -- a stop at the token come to
-  append_nothing : (xs : List Token) → xs ++ [] ≡ xs
-  append_nothing [] = refl
-  append_nothing (x ∷ xs) = ap (λ z. x ∷ z) (append_nothing xs)
-
   pub here_stop : {A : Type 0} {front : List Token} {e : ℕ} {ts : List Token} (F : ℕ → List Token → Fault)
       → ((m m' : List Token) → SameNext m m' → F e m ≡ F e m') → Why site front e ts (F e ts) → Here {A = A} front (λ e ts. stop (F e ts)) e ts
   unfolding last_end
   here_stop {front = front} {e = e} {ts = ts} F same why =
-      stopped [] ts (subst (λ x. Why site x e ts (F e ts)) (sym (append_nothing front)) why) (λ m' s. ap stop (sym (same ts m' s)))
+      stopped [] ts (subst (λ x. Why site x e ts (F e ts)) (sym (append-nil front)) why) (λ m' s. ap stop (sym (same ts m' s)))
 
   pub here_stop_at : {A : Type 0} {front : List Token} {e : ℕ} {ts : List Token} (k : FaultKind)
       → Why site front e ts (fault_at k (span_here e ts)) → Here {A = A} front (stop_at k) e ts
@@ -90,25 +88,21 @@ module _ (site : Site) where
   here_stop_at {e = e} k why = here_stop (λ e ts. fault_at k (span_here e ts)) (λ m m' s. ap (fault_at k) (span_same e s)) why
 
   -- faults added
-  adding : {A : Type 0} (fs : List Fault) {p : Reader A} {front : List Token} {e : ℕ} {ts : List Token} {o : Out A}
+  pub here_add : {A : Type 0} (fs : List Fault) {p : Reader A} {front : List Token} {e : ℕ} {ts : List Token} {o : Out A}
       → Seen front p e ts o → Seen front (λ e ts. add fs (p e ts)) e ts (add fs o)
   unfolding add
-  adding fs (taken part m same) = taken part m (λ m' s. ap (add fs) (same m' s))
-  adding fs (stopped part m why same) = stopped part m why (λ m' s. ap (add fs) (same m' s))
-
-  pub here_add : {A : Type 0} (fs : List Fault) {p : Reader A} {front : List Token} {e : ℕ} {ts : List Token} → Here front p e ts → Here front (λ e ts. add fs (p e ts)) e ts
-  here_add fs s = adding fs s
+  here_add fs (taken part m same) = taken part m (λ m' s. ap (add fs) (same m' s))
+  here_add fs (stopped part m why same) = stopped part m why (λ m' s. ap (add fs) (same m' s))
 
   -- tests on the next token
   pub here_test : {A : Type 0} (b : Token → Bool) {p q : Reader A} {front : List Token} {e : ℕ} {ts : List Token}
       → (b (next ts) ≡ true → Here front p e ts) → (b (next ts) ≡ false → Here front q e ts)
       → Here front (λ e ts. test (b (next ts)) (p e ts) (q e ts)) e ts
   unfolding test
-  here_test {A = A} b {p = p} {q = q} {front = front} {e = e} {ts = ts} f g = go (b (next ts)) refl
-    where
-      go : (v : Bool) → b (next ts) ≡ v → Here front (λ e ts. test (b (next ts)) (p e ts) (q e ts)) e ts
-      go true h = as_other p (λ x s. ap (λ v. test v (p e x) (q e x)) (ap b (sym (next_same s)) ∙ h)) (f h)
-      go false h = as_other q (λ x s. ap (λ v. test v (p e x) (q e x)) (ap b (sym (next_same s)) ∙ h)) (g h)
+  here_test b {p = p} {q = q} {e = e} {ts = ts} f g = elim (cases_Bool (b (next ts))) [
+    | inl h ↦ as_other p (λ x s. ap (λ v. test v (p e x) (q e x)) (ap b (sym (next_same s)) ∙ h)) (f h)
+    | inr h ↦ as_other q (λ x s. ap (λ v. test v (p e x) (q e x)) (ap b (sym (next_same s)) ∙ h)) (g h)
+  ]
 
   -- tests that are settled
   pub local_if : {A : Type 0} (b : Bool) {p q : Reader A} {front : List Token} → (b ≡ true → LocalAt front p) → (b ≡ false → LocalAt front q)
@@ -122,37 +116,25 @@ module _ (site : Site) where
       → ((m' : List Token) → SameNext m m' → p e (part ++ m') ≡ got a fs (last_end e part) m') → Seen (front ++ part) (k a) (last_end e part) m o
       → Seen front (λ e ts. bind (p e ts) k) e (part ++ m) (add fs o)
   unfolding bind add
-  join p k {front = front} {e = e} part {a = a} {fs = fs} same (taken part₂ m₂ {a = b} {fs = gs} same₂) =
-      let P : List Token → Type 0 = λ x. Seen front (λ e ts. bind (p e ts) k) e x (got b (fs ++ gs) (last_end (last_end e part) part₂) m₂) in
-      let Q : ℕ → Type 0 = λ x. Seen front (λ e ts. bind (p e ts) k) e ((part ++ part₂) ++ m₂) (got b (fs ++ gs) x m₂) in
-      subst P (append_assoc part part₂ m₂) (subst Q (end_joined e part part₂) (taken (part ++ part₂) m₂ (λ m' s.
-      ap (λ x. bind (p e x) k) (append_assoc part part₂ m') ∙ ap (λ x. bind x k) (same (part₂ ++ m') (extend part₂ s))
-      ∙ ap (add fs) (same₂ m' s) ∙ ap (λ x. got b (fs ++ gs) x m') (sym (end_joined e part part₂)))))
-  join p k {front = front} {e = e} part {a = a} {fs = fs} same (stopped part₂ m₂ {f = f} why same₂) =
-      let P : List Token → Type 0 = λ x. Seen front (λ e ts. bind (p e ts) k) e x (stop f) in
-      let W : List Token → Type 0 = λ x. Why site x (last_end (last_end e part) part₂) m₂ f in
-      let V : ℕ → Type 0 = λ x. Why site (front ++ (part ++ part₂)) x m₂ f in
-      subst P (append_assoc part part₂ m₂) (stopped (part ++ part₂) m₂
-      (subst V (sym (end_joined e part part₂)) (subst W (append_assoc front part part₂) why)) (λ m' s.
-      ap (λ x. bind (p e x) k) (append_assoc part part₂ m') ∙ ap (λ x. bind x k) (same (part₂ ++ m') (extend part₂ s)) ∙ ap (add fs) (same₂ m' s)))
-
-  after_of : {A B : Type 0} {p : Reader A} {k : A → Reader B} {front : List Token} {e : ℕ} {ts : List Token} {o : Out A} (Q : List Token → Type 0)
-      → ((a : A) (fs : List Fault) (e' : ℕ) (m : List Token) → p e ts ≡ got a fs e' m → Q m)
-      → Seen front p e ts o → ((a : A) (part : List Token) (e : ℕ) (m : List Token) → Q m → Here (front ++ part) (k a) e m)
-      → Seen front (λ e ts. bind (p e ts) k) e ts (bind o k)
-  unfolding bind
-  after_of {p = p} {k = k} {e = e} Q post (taken part m {a = a} {fs = fs} same) l = join p k part same (l a part (last_end e part) m (post a fs (last_end e part) m (same m (self m))))
-  after_of {k = k} Q post (stopped part m why same) l = stopped part m why (λ m' s. ap (λ x. bind x k) (same m' s))
+  join p k {e = e} part {fs = fs} same (taken part₂ m₂ {a = b} {fs = gs} same₂) =
+      rw (← append_assoc part part₂ m₂, ← end_joined e part part₂)
+      (taken (part ++ part₂) m₂ {a = b} {fs = fs ++ gs} (λ m' s. rw (append_assoc part part₂ m', same (part₂ ++ m') (extend part₂ s), same₂ m' s, end_joined e part part₂) refl))
+  join p k {front = front} {e = e} part same (stopped part₂ m₂ {f = f} why same₂) =
+      rw (← append_assoc part part₂ m₂)
+      (stopped (part ++ part₂) m₂ {f = f} (rw (end_joined e part part₂, ← append_assoc front part part₂) why)
+      (λ m' s. rw (append_assoc part part₂ m', same (part₂ ++ m') (extend part₂ s), same₂ m' s) refl))
 
   -- with what is known of the tokens that are left then
-  pub after_to : {A B : Type 0} {p : Reader A} {k : A → Reader B} {front : List Token} {e : ℕ} {ts : List Token} (Q : List Token → Type 0)
-      → ((a : A) (fs : List Fault) (e' : ℕ) (m : List Token) → p e ts ≡ got a fs e' m → Q m) → Here front p e ts
-      → ((a : A) (part : List Token) (e : ℕ) (m : List Token) → Q m → Here (front ++ part) (k a) e m) → Here front (λ e ts. bind (p e ts) k) e ts
-  after_to Q post s l = after_of Q post s l
+  pub after_to : {A B : Type 0} {p : Reader A} {k : A → Reader B} {front : List Token} {e : ℕ} {ts : List Token} {o : Out A} (Q : List Token → Type 0)
+      → ((a : A) (fs : List Fault) (e' : ℕ) (m : List Token) → p e ts ≡ got a fs e' m → Q m) → Seen front p e ts o
+      → ((a : A) (part : List Token) (e : ℕ) (m : List Token) → Q m → Here (front ++ part) (k a) e m) → Seen front (λ e ts. bind (p e ts) k) e ts (bind o k)
+  unfolding bind
+  after_to {p = p} {k = k} {e = e} Q post (taken part m {a = a} {fs = fs} same) l = join p k part same (l a part (last_end e part) m (post a fs (last_end e part) m (same m (self m))))
+  after_to {k = k} Q post (stopped part m why same) l = stopped part m why (λ m' s. ap (λ x. bind x k) (same m' s))
 
   pub after : {A B : Type 0} {p : Reader A} {k : A → Reader B} {front : List Token} {e : ℕ} {ts : List Token}
       → Here front p e ts → ((a : A) (part : List Token) → LocalAt (front ++ part) (k a)) → Here front (λ e ts. bind (p e ts) k) e ts
-  after s l = after_of (λ _. Unit {0}) (λ a fs e' m _. tt) s (λ a part e m _. l a part e m)
+  after s l = after_to (λ _. Unit {0}) (λ a fs e' m _. tt) s (λ a part e m _. l a part e m)
 
   -- one token
   module _ (k : FaultKind) (p : Token → Bool) (w : Token → List Fault) (none : p ended ≡ false) where
@@ -160,64 +142,43 @@ module _ (site : Site) where
     unfolding token test next rest
     token_is t e x h = rw h refl
 
-    not_token : (e : ℕ) (x : List Token) → p (next x) ≡ false → token k p w e x ≡ stop_at k e x
-    unfolding token test
-    not_token e x h = rw h refl
-
-    pub here_token : {front : List Token} (e : ℕ) (ts : List Token) → (p (next ts) ≡ false → Why site front e ts (fault_at k (span_here e ts))) → Here front (token k p w) e ts
-    unfolding next last_end
-    here_token {front = front} e ts why = go ts why
-      where
-        nothing : (ts : List Token) → p (next ts) ≡ false → Why site front e ts (fault_at k (span_here e ts)) → Here front (token k p w) e ts
-        nothing ts h y = as_other (stop_at k) (λ x s. not_token e x (ap p (sym (next_same s)) ∙ h)) (here_stop_at k y)
-
-        one : (t : Token) (ts : List Token) (v : Bool) → p t ≡ v → (p t ≡ false → Why site front e (t ∷ ts) (fault_at k (span_here e (t ∷ ts)))) → Here front (token k p w) e (t ∷ ts)
-        one t ts true h y = subst (λ o. Seen front (token k p w) e (t ∷ ts) o) (sym (token_is t e ts h)) (taken (t ∷ []) ts (λ m' s. token_is t e m' h))
-        one t ts false h y = nothing (t ∷ ts) h (y h)
-
-        go : (ts : List Token) → (p (next ts) ≡ false → Why site front e ts (fault_at k (span_here e ts))) → Here front (token k p w) e ts
-        go [] y = nothing [] none (y none)
-        go (t ∷ ts) y = one t ts (p t) refl y
+    no_token : {B : Type 0} (K : Token → Reader B) {front : List Token} (e : ℕ) (ts : List Token)
+        → p (next ts) ≡ false → Why site front e ts (fault_at k (span_here e ts)) → Here front (λ e ts. bind (token k p w e ts) K) e ts
+    unfolding token test bind stop_at
+    no_token {B = B} K e ts h y = as_other (stop_at {A = B} k) (λ x s. rw (ap p (sym (next_same s)) ∙ h) refl) (here_stop_at k y)
 
     -- and what follows it
     pub after_token : {B : Type 0} {K : Token → Reader B} {front : List Token} (e : ℕ) (ts : List Token)
         → (p (next ts) ≡ false → Why site front e ts (fault_at k (span_here e ts))) → ((t : Token) → p t ≡ true → LocalAt (front ++ (t ∷ [])) (K t))
         → Here front (λ e ts. bind (token k p w e ts) K) e ts
-    unfolding next last_end bind stop_at
-    after_token {B = B} {K = K} {front = front} e ts why l = go ts why
-      where
-        nothing : (ts : List Token) → p (next ts) ≡ false → Why site front e ts (fault_at k (span_here e ts)) → Here front (λ e ts. bind (token k p w e ts) K) e ts
-        nothing ts h y = as_other (stop_at {A = B} k) (λ x s. ap (λ o. bind o K) (not_token e x (ap p (sym (next_same s)) ∙ h))) (here_stop_at k y)
+    unfolding next last_end bind
+    after_token {K = K} e [] why l = no_token K e [] none (why none)
+    after_token {K = K} {front = front} e (t ∷ ts) why l = elim (cases_Bool (p t)) [
+      | inl h ↦ subst (λ o. Seen front (λ e ts. bind (token k p w e ts) K) e (t ∷ ts) o) (ap (λ o. bind o K) (sym (token_is t e ts h)))
+          (join (token k p w) K (t ∷ []) (λ m' s. token_is t e m' h) (l t h t.span.end ts))
+      | inr h ↦ no_token K e (t ∷ ts) h (why h)
+    ]
 
-        one : (t : Token) (ts : List Token) (v : Bool) → p t ≡ v → (p t ≡ false → Why site front e (t ∷ ts) (fault_at k (span_here e (t ∷ ts)))) → Here front (λ e ts. bind (token k p w e ts) K) e (t ∷ ts)
-        one t ts true h y = subst (λ o. Seen front (λ e ts. bind (token k p w e ts) K) e (t ∷ ts) o) (ap (λ o. bind o K) (sym (token_is t e ts h)))
-            (join (token k p w) K (t ∷ []) (λ m' s. token_is t e m' h) (l t h t.span.end ts))
-        one t ts false h y = nothing (t ∷ ts) h (y h)
+    -- alone
+    alone : (o : Out Token) → bind o (λ t e ts. got t [] e ts) ≡ o
+    unfolding bind add
+    alone (stop f) = refl
+    alone (got t fs e m) = ap (λ gs. got t gs e m) (append-nil fs)
 
-        go : (ts : List Token) → (p (next ts) ≡ false → Why site front e ts (fault_at k (span_here e ts))) → Here front (λ e ts. bind (token k p w e ts) K) e ts
-        go [] y = nothing [] none (y none)
-        go (t ∷ ts) y = one t ts (p t) refl y
+    pub here_token : {front : List Token} (e : ℕ) (ts : List Token) → (p (next ts) ≡ false → Why site front e ts (fault_at k (span_here e ts))) → Here front (token k p w) e ts
+    here_token e ts why = as_other (λ e ts. bind (token k p w e ts) (λ t e ts. got t [] e ts)) (λ x s. sym (alone (token k p w e x))) (after_token e ts why (λ t h. local_got t))
 
   -- too many faults
-  uncrowded : {A : Type 0} (room : ℕ) (a : A) (fs : List Fault) (e : ℕ) (m : List Token) → leb (length fs) room ≡ true → crowded room (got a fs e m) ≡ got a fs e m
-  unfolding crowded test
-  uncrowded room a fs e m h = rw h refl
-
-  overcrowded : {A : Type 0} (room : ℕ) (a : A) (fs : List Fault) (e : ℕ) (m : List Token) → leb (length fs) room ≡ false → crowded room (got a fs e m) ≡ stop (fault_at Full (span_here e m))
-  unfolding crowded test stop_at
-  overcrowded room a fs e m h = rw h refl
-
-  crowding : {A : Type 0} (room : ℕ) {p : Reader A} {front : List Token} {e : ℕ} {ts : List Token} {o : Out A}
+  pub local_crowded : {A : Type 0} (room : ℕ) {p : Reader A} {front : List Token} {e : ℕ} {ts : List Token} {o : Out A}
       → Seen front p e ts o → Seen front (λ e ts. crowded room (p e ts)) e ts (crowded room o)
-  unfolding crowded
-  crowding room (stopped part m why same) = stopped part m why (λ m' s. ap (crowded room) (same m' s))
-  crowding room {p = p} {front = front} {e = e} (taken part m {a = a} {fs = fs} same) = go (leb (length fs) room) refl
-    where
-      go : (v : Bool) → leb (length fs) room ≡ v → Seen front (λ e ts. crowded room (p e ts)) e (part ++ m) (crowded room (got a fs (last_end e part) m))
-      go true h = subst (λ o. Seen front (λ e ts. crowded room (p e ts)) e (part ++ m) o) (sym (uncrowded room a fs (last_end e part) m h))
-          (taken part m (λ m' s. ap (crowded room) (same m' s) ∙ uncrowded room a fs (last_end e part) m' h))
-      go false h = subst (λ o. Seen front (λ e ts. crowded room (p e ts)) e (part ++ m) o) (sym (overcrowded room a fs (last_end e part) m h))
-          (stopped part m full (λ m' s. ap (crowded room) (same m' s) ∙ overcrowded room a fs (last_end e part) m' h ∙ ap (λ x. stop (fault_at Full x)) (sym (span_same (last_end e part) s))))
-
-  pub local_crowded : {A : Type 0} (room : ℕ) {p : Reader A} {front : List Token} {e : ℕ} {ts : List Token} → Here front p e ts → Here front (λ e ts. crowded room (p e ts)) e ts
-  local_crowded room s = crowding room s
+  unfolding crowded test stop_at
+  local_crowded room (stopped part m why same) = stopped part m why (λ m' s. ap (crowded room) (same m' s))
+  local_crowded room {p = p} {front = front} {e = e} (taken part m {a = a} {fs = fs} same) = elim (cases_Bool (leb (length fs) room)) [
+    | inl h ↦
+        let u : (m : List Token) → crowded room (got a fs (last_end e part) m) ≡ got a fs (last_end e part) m = λ m. rw h refl in
+        subst (λ o. Seen front (λ e ts. crowded room (p e ts)) e (part ++ m) o) (sym (u m)) (taken part m (λ m' s. ap (crowded room) (same m' s) ∙ u m'))
+    | inr h ↦
+        let u : (m : List Token) → crowded room (got a fs (last_end e part) m) ≡ stop (fault_at Full (span_here (last_end e part) m)) = λ m. rw h refl in
+        subst (λ o. Seen front (λ e ts. crowded room (p e ts)) e (part ++ m) o) (sym (u m))
+        (stopped part m full (λ m' s. ap (crowded room) (same m' s) ∙ u m' ∙ ap (λ x. stop (fault_at Full x)) (sym (span_same (last_end e part) s))))
+  ]

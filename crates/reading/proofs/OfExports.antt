@@ -1,16 +1,15 @@
 -- Export clauses.
-use Rattle.std.proofs.Common.{◌≡◌, ℕ, zero, suc, ◌+◌, ◌≤◌, Bool, true, false, cond, List, [], ◌∷◌, length, Some, None, Ok, Err, Result, refl, arith}
+use Rattle.std.proofs.Common.{◌≡◌, ℕ, zero, suc, ◌+◌, ◌≤◌, false, List, [], ◌∷◌, length, Some, None, Ok, Err, Result, refl, arith}
 use Rattle.std.specs.List.{slice_get}
 use Rattle.std.proofs.lemmas.Option.{slice_get_past}
 use Rattle.std.proofs.lemmas.Bool.{or_parts, or_from}
 use Rattle.kinds.specs.declared.kind.Kind.TheVariants.{As, From, Star, LCurly, RCurly, Default}
 use Rattle.lexer.specs.declared.token.Token.{Token}
 use Rattle.lexer.specs.Tokens.{part_of}
-use Rattle.pages.specs.declared.fault.FaultKind.TheVariants.{Foreign, ExportString, ExportReserved}
+use Rattle.pages.specs.declared.fault.FaultKind.TheVariants.{Foreign}
 use Rattle.pages.specs.declared.rows.Name.{Name}
 use Rattle.pages.specs.declared.rows.Specifier.{Specifier}
 use Rattle.pages.specs.declared.rows.Attribute.{Attribute}
-use Rattle.pages.specs.Faults.{fault_at}
 use Rattle.reading.specs.declared.naming.Naming.{Naming}
 use Rattle.reading.specs.Ahead.{clause_follows}
 use Rattle.reading.specs.Settings.{Setting}
@@ -23,28 +22,21 @@ use Rattle.reading.specs.Attributes.{attributes}
 use Rattle.reading.specs.Exports.{export_specifier, export_local, locals, export_all, export_braces, room_for, declared_by, defaulted_by, export_clause}
 use Rattle.reading.specs.Exports as reader
 use Rattle.reading.specs.Main.{Cleanly}
-use Rattle.reading.proofs.Clean.{took, takes, bound_of, binds, tested, passes, fails, stopped, stopped_at, done, ends, added, adds, faulty, front_none}
+use Rattle.reading.proofs.Clean.{took, takes, bound_of, binds, tested, passes, fails, stopped, stopped_at, done, ends, added, adds, faulty, undrawn, front_none}
 use Rattle.reading.proofs.OfKinds.{star_right, as_right, default_right, name_right, sign_at, word_at}
-use Rattle.reading.proofs.Specifiers.{exports_sound, exports_complete}
+use Rattle.reading.proofs.Lists.{curly, braced_sound, braced_complete}
+use Rattle.reading.proofs.Specifiers.{exports}
 use Rattle.reading.proofs.Forms.{source_right, from_at, braces_at}
 use Rattle.reading.proofs.Attrs.{attributes_sound, attributes_complete, end_sound, end_complete}
 
 -- local names
 local_is : (text : List ℕ) (x : Name) → export_local text x ≡ [] → (x.string ≡ false) × (reserved_text (part_of text x.text) ≡ false)
 unfolding export_local
-local_is text x h = go x.string (reserved_text (part_of text x.text)) h
-  where
-    go : (a b : Bool) → cond a (fault_at ExportString x.span ∷ []) (cond b (fault_at ExportReserved x.span ∷ []) []) ≡ [] → (a ≡ false) × (b ≡ false)
-    go true b e = faulty e
-    go false true e = faulty e
-    go false false e = (refl, refl)
+local_is text x h = let p = undrawn x.string _ _ h in (p.0, (undrawn (reserved_text (part_of text x.text)) _ _ p.1).0)
 
 local_none : (text : List ℕ) (x : Name) → x.string ≡ false → reserved_text (part_of text x.text) ≡ false → export_local text x ≡ []
 unfolding export_local
-local_none text x p q = go x.string (reserved_text (part_of text x.text)) p q
-  where
-    go : (a b : Bool) → a ≡ false → b ≡ false → cond a (fault_at ExportString x.span ∷ []) (cond b (fault_at ExportReserved x.span ∷ []) []) ≡ []
-    go a b p q = rw (p, q) refl
+local_none text x p q = rw (p, q) refl
 
 locals_of : (text : List ℕ) (l : List Specifier) → locals text l ≡ [] → Locals text l
 unfolding locals
@@ -109,7 +101,7 @@ module _ (w : Setting) (text : List ℕ) where
         (λ _ y₃. via_source (all_from None) e₁ m (Fit n ts) y₃ (λ s' l q c u. (all_of s c, record { specifiers = omega arith; names = omega arith; attributes = u }))))
         (λ n₁ y₁. tested y₁
         (λ _ y₂. bound_of (braced export_specifier RCurly w.names e ts) y₂ λ l e₁ m z y₃.
-        let r = exports_sound w.names e ts z in
+        let r = braced_sound curly exports w.names e ts z in
         tested y₃
         (λ _ y₄. via_source (names_from l) e₁ m (Fit n ts) y₄ (λ s' k q c u. (some_of r.0 c, record { specifiers = r.1; names = omega arith; attributes = u })))
         (λ g y₄. added y₄ λ o y₅. bound_of (ending e₁ m) y₅ λ d e₂ q z' y₆.
@@ -127,10 +119,10 @@ module _ (w : Setting) (text : List ℕ) where
     export_complete n e (all_as {x = x} s k r c) u = passes _ (sign_at Star s refl) (takes e _ star_right s λ e₁.
         passes _ (word_at As k refl) (takes e₁ _ as_right k λ e₂. takes e₂ _ name_right r λ e₃. source_via (all_from (Some x)) e₃ c u.attributes))
     export_complete n e (some_of {l = l} b (sourced r a d)) u = fails _ (braces_at Star b refl) (passes _ (braces_at LCurly b refl)
-        (binds _ (exports_complete w.names e b u.specifiers) λ e₁.
+        (binds _ (braced_complete curly exports w.names e b u.specifiers) λ e₁.
         passes _ (from_at From r refl) (source_via (names_from l) e₁ (sourced r a d) u.attributes)))
     export_complete n e (own {l = l} b g o d) u = fails _ (braces_at Star b refl) (passes _ (braces_at LCurly b refl)
-        (binds _ (exports_complete w.names e b u.specifiers) λ e₁.
+        (binds _ (braced_complete curly exports w.names e b u.specifiers) λ e₁.
         fails _ g (adds (of_locals text l o) (binds _ (end_complete e₁ d) λ e₂. ends))))
     export_complete n e (by_declaration {is = is} f q) u =
         let p₁ = or_parts _ _ f in let p₂ = or_parts _ _ p₁.1 in let p₃ = or_parts _ _ p₂.1 in let p₄ = or_parts _ _ p₃.1 in

@@ -1,28 +1,34 @@
 -- The laws of stops, item by item.
-use Rattle.std.proofs.Common.{◌≡◌, ℕ, zero, suc, ◌+◌, Bool, true, false, not, ◌&&◌, ◌||◌, eqb, leb, List, [], ◌∷◌, ◌++◌, length, take, drop, Ok, Err, Result, sym, refl, ap, ◌∙◌, subst, inl, add-zero, arith, take-append-drop}
-use Rattle.std.proofs.lemmas.Bool.{le-leb, and_parts, and_left}
-use Rattle.kinds.specs.declared.kind.Kind.{Kind}
+use Rattle.std.proofs.Common.{◌≡◌, ℕ, zero, suc, ◌+◌, ◌-◌, ◌<◌, true, false, not, ◌&&◌, ◌||◌, leb, List, [], ◌∷◌, ◌++◌, length, take, drop, Ok, Err, Result, sym, refl, ap, ◌∙◌, subst, inl, inr, add-zero, arith, take-append-drop, length-append}
+use Rattle.std.proofs.Math.Seq.{take-append_seam}
+use Rattle.std.proofs.lemmas.Bool.{cases_Bool, le-leb, and_parts, and_left}
 use Rattle.kinds.specs.declared.kind.Kind.TheVariants.{Import, Export, Star, LCurly, LParen, Dot, Default}
-use Rattle.kinds.specs.Numbers.{number, same}
+use Rattle.kinds.specs.Numbers.{same}
 use Rattle.lexer.specs.declared.token.Token.{Token}
 use Rattle.pages.specs.declared.fault.Fault.{Fault}
-use Rattle.pages.specs.declared.fault.FaultKind.TheVariants.{Expected, Foreign}
+use Rattle.pages.specs.declared.fault.FaultKind.TheVariants.{Foreign}
 use Rattle.pages.specs.Faults.{fault_of_host}
 use Rattle.reading.specs.Ahead.{next, rest, span_here, at, import_follows}
 use Rattle.reading.specs.Settings.{Setting}
 use Rattle.reading.specs.Hosts.{Host}
 use Rattle.reading.specs.Readings.{Clause, imported, stated, Item, last_end, span_of, upto}
-use Rattle.reading.specs.Steps.{Out, stop, got, Reader, stop_at, add, bind, test, esc, token, word, ending, crowded}
+use Rattle.reading.specs.Steps.{Out, stop, got, Reader, stop_at, add, bind, test, esc, token, ending, crowded}
 use Rattle.reading.specs.Attributes.{attributes}
 use Rattle.reading.specs.Imports.{form, importing}
 use Rattle.reading.specs.Exports.{export_all, export_braces, export_clause, exporting}
 use Rattle.reading.specs.Items.{stated_by, clause, item}
 use Rattle.reading.specs.Laws.{Site, SameNext, Why, refused, imports, NoHost, an_import, all_of, some_of, foreign, Stop, SameStop, Taken, LawsOfStops}
-use Rattle.reading.proofs.Clean.{clash}
+use Rattle.reading.proofs.Clean.{clash, never, tested_got}
 use Rattle.reading.proofs.OfKinds.{same_is, seen}
-use Rattle.reading.proofs.Fronts.{upto_front}
 use Rattle.reading.proofs.Local.{self, extend, next_same, Seen, taken, stopped, Here, Local, local_got, here_stop_at, after, local_crowded}
-use Rattle.reading.proofs.OfReaders.{never, form_local, attributes_local, ending_local, export_all_here, export_braces_here, export_local}
+use Rattle.reading.proofs.OfReaders.{form_local, attributes_local, ending_local, export_all_here, export_braces_here, export_local}
+
+-- the tokens before what is left
+upto_front : (xs ys : List Token) → upto (xs ++ ys) ys ≡ xs
+unfolding upto
+upto_front xs ys =
+    let n : length (xs ++ ys) - length ys ≡ length xs = omega (arith, length-append xs ys) in
+    rw n (take-append_seam xs ys)
 
 -- what follows `import`
 abbrev import_rest : Setting → List ℕ → Reader Clause
@@ -55,11 +61,6 @@ module _ (site : Site) where
   body_here room t fs s = local_crowded site room (itemized t fs s)
 
 -- the first token
-first_is : (k : Kind) (t : Token) (e : ℕ) (x : List Token) (K : Reader Clause) → t.kind ≡ k → eqb (number k) (number k) ≡ true
-    → bind (word k e (t ∷ x)) (λ _. K) ≡ add (esc t) (K t.span.end x)
-unfolding token next rest test bind
-first_is k t e x K h z = ap (λ b. bind (test b (got t (esc t) t.span.end x) (stop_at Expected e (t ∷ x))) (λ _. K)) (seen k h z)
-
 module _ (w : Setting) (text : List ℕ) (t : Token) where
   follows_same : {x x' : List Token} → SameNext x x' → import_follows (t ∷ x) ≡ import_follows (t ∷ x')
   unfolding import_follows next rest
@@ -71,23 +72,24 @@ module _ (w : Setting) (text : List ℕ) (t : Token) where
 
   import_is : (h : Host) (all : List Token) (n e : ℕ) (x : List Token) → import_follows (t ∷ x) ≡ true
       → item w text h all n e (t ∷ x) ≡ body w.faults t (esc t) (import_rest w text) t.span.end x
-  unfolding item clause importing test
-  import_is h all n e x f =
-      ap (λ b. crowded w.faults (bind (test b (importing w text e (t ∷ x)) (test (at Export (t ∷ x)) (exporting w text h all n e (t ∷ x)) (stated_by (h.statement all n) e (t ∷ x)))) (made (t ∷ x)))) f
-      ∙ ap (λ o. crowded w.faults (bind o (made (t ∷ x)))) (first_is Import t e x (import_rest w text) (import_kind x f) refl)
+  unfolding item clause importing token next rest test bind
+  import_is h all n e x f = rw (f, seen Import (import_kind x f) refl) refl
 
   export_is : (h : Host) (all : List Token) (n e : ℕ) (x : List Token) → import_follows (t ∷ x) ≡ false → same t.kind Export ≡ true
       → item w text h all n e (t ∷ x) ≡ body w.faults t (esc t) (export_clause w text h all (n + 1)) t.span.end x
-  unfolding item clause exporting test next
-  export_is h all n e x f g =
-      ap (λ b. crowded w.faults (bind (test b (importing w text e (t ∷ x)) (test (at Export (t ∷ x)) (exporting w text h all n e (t ∷ x)) (stated_by (h.statement all n) e (t ∷ x)))) (made (t ∷ x)))) f
-      ∙ ap (λ b. crowded w.faults (bind (test b (exporting w text h all n e (t ∷ x)) (stated_by (h.statement all n) e (t ∷ x))) (made (t ∷ x)))) g
-      ∙ ap (λ o. crowded w.faults (bind o (made (t ∷ x)))) (first_is Export t e x (export_clause w text h all (n + 1)) (same_is t.kind Export g) refl)
+  unfolding item clause exporting token next rest test bind
+  export_is h all n e x f g = rw (f, g) refl
 
--- what is read from what was seen
-pub record Begins (t : Token) (i : Item) : Type 0 where
+-- An item that is read from the token t on: what it takes stands at the front, and t is its first token.
+pub record First (e : ℕ) (t : Token) (x : List Token) (i : Item) (e' : ℕ) (m : List Token) : Type 0 where
+  pub taken : Taken e (t ∷ x) i e' m
   pub part : List Token
-  pub is : i.tokens ≡ t ∷ part
+  pub begins : i.tokens ≡ t ∷ part
+
+taken_as : {e e₁ e' : ℕ} {ts r m : List Token} {i j : Item} {gs fs : List Fault} → got j gs e₁ r ≡ got i fs e' m → Taken e ts j e₁ r → Taken e ts i e' m
+taken_as p k =
+    let a = k.is in
+    let b = k.end in record { is = cc; end = cc }
 
 module _ (w : Setting) (text : List ℕ) (site : Site) (t : Token) where
   stop_of : {P : Reader Item} {x : List Token} {o : Out Item} {f : Fault} (e : ℕ) → Seen site (t ∷ []) P t.span.end x o → o ≡ stop f → Stop site e (t ∷ x) f
@@ -112,38 +114,25 @@ module _ (w : Setting) (text : List ℕ) (site : Site) (t : Token) where
         same = λ m' s h all n. eqs (part ++ m') (extend part s) h all n ∙ same m' s ∙ ap stop q;
       }
 
-  taken_of : {P : Reader Item} {x : List Token} {o : Out Item} {i : Item} {fs : List Fault} {e' : ℕ} {m : List Token} (e : ℕ)
-      → Seen site (t ∷ []) P t.span.end x o → o ≡ got i fs e' m → i.tokens ≡ upto (t ∷ x) m → Taken e (t ∷ x) i e' m
+  first_of : {P : Reader Item} {x : List Token} {o : Out Item} {i : Item} {fs : List Fault} {e' : ℕ} {m : List Token} (e : ℕ)
+      → Seen site (t ∷ []) P t.span.end x o → o ≡ got i fs e' m → i.tokens ≡ upto (t ∷ x) m → First e t x i e' m
   unfolding last_end
-  taken_of {i = i} {e' = e'} {m = m} e (taken part m₁ same) p u =
+  first_of {i = i} {e' = e'} {m = m} e (taken part m₁ same) p u =
       let q : m₁ ≡ m = cc in
       let r : last_end t.span.end part ≡ e' = cc in
       let v : i.tokens ≡ t ∷ part = u ∙ ap (λ y. upto (t ∷ (part ++ m₁)) y) (sym q) ∙ upto_front (t ∷ part) m₁ in
-      record { is = ap (λ y. t ∷ (part ++ y)) q ∙ ap (λ y. y ++ m) (sym v); end = sym r ∙ ap (λ y. last_end e y) (sym v) }
-  taken_of e (stopped part m₁ why same) p u = never (sym p)
-
-  begins_of : {P : Reader Item} {x : List Token} {o : Out Item} {i : Item} {fs : List Fault} {e' : ℕ} {m : List Token}
-      → Seen site (t ∷ []) P t.span.end x o → o ≡ got i fs e' m → i.tokens ≡ upto (t ∷ x) m → Begins t i
-  begins_of {m = m} (taken part m₁ same) p u =
-      let q : m₁ ≡ m = cc in
-      record { part = part; is = u ∙ ap (λ y. upto (t ∷ (part ++ m₁)) y) (sym q) ∙ upto_front (t ∷ part) m₁ }
-  begins_of (stopped part m₁ why same) p u = never (sym p)
+      let k : Taken e (t ∷ (part ++ m₁)) i e' m = record { is = rw (v, q) refl; end = rw (v, ← r) refl } in
+      record { taken = k; part = part; begins = v }
+  first_of e (stopped part m₁ why same) p u = never (sym p)
 
 -- the tokens of an item
-test-got : {A : Type 0} (b : Bool) (x : Out A) (f : Fault) {a : A} {fs : List Fault} {e : ℕ} {m : List Token} → test b x (stop f) ≡ got a fs e m → x ≡ got a fs e m
-unfolding test
-test-got true x f p = p
-test-got false x f p = never (sym p)
-
 crowded_tokens : (room : ℕ) (ts : List Token) (o : Out Clause) {i : Item} {fs : List Fault} {e : ℕ} {m : List Token}
     → crowded room (bind o (made ts)) ≡ got i fs e m → i.tokens ≡ upto ts m
 unfolding bind add crowded stop_at
 crowded_tokens room ts (stop f) p = never (sym p)
-crowded_tokens room ts (got c gs e₁ m₁) {i = i} {m = m} p =
-    let q = test-got (leb (length (gs ++ [])) room) _ _ p in
-    let r : record { tokens = upto ts m₁; clause = c } ≡ i = cc in
-    let s : m₁ ≡ m = cc in
-    sym (ap (λ (j : Item). j.tokens) r) ∙ ap (upto ts) s
+crowded_tokens room ts (got c gs e₁ m₁) {i = i} {m = m} p = tested_got (leb (length (gs ++ [])) room) _ _ p
+    (λ _ q. let r : record { tokens = upto ts m₁; clause = c } ≡ i = cc in let s : m₁ ≡ m = cc in rw (← r, s) refl)
+    (λ _ q. never (sym q))
 
 not_import : import_follows [] ≡ false
 unfolding import_follows next rest same
@@ -161,13 +150,14 @@ module _ (w : Setting) (text : List ℕ) (h : Host) (all : List Token) (n : ℕ)
   stated_is : (e : ℕ) (ts : List Token) → import_follows ts ≡ false → at Export ts ≡ false
       → item w text h all n e ts ≡ crowded w.faults (bind (stated_by (h.statement all n) e ts) (made ts))
   unfolding item clause test
-  stated_is e ts f g =
-      ap (λ b. crowded w.faults (bind (test b (importing w text e ts) (test (at Export ts) (exporting w text h all n e ts) (stated_by (h.statement all n) e ts))) (made ts))) f
-      ∙ ap (λ b. crowded w.faults (bind (test b (exporting w text h all n e ts) (stated_by (h.statement all n) e ts)) (made ts))) g
+  stated_is e ts f g = rw (f, g) refl
 
-  few : (k e : ℕ) (ts : List Token) → crowded w.faults (bind (stated_by (Ok k) e ts) (made ts)) ≡ got (record { tokens = upto ts (drop k ts); clause = stated }) [] (last_end e (take k ts)) (drop k ts)
+  few : (k e : ℕ) (ts : List Token) → crowded w.faults (bind (stated_by (Ok k) e ts) (made ts)) ≡ got (record { tokens = take k ts; clause = stated }) [] (last_end e (take k ts)) (drop k ts)
   unfolding stated_by bind add crowded test
-  few k e ts = rw (le-leb 0 w.faults (omega arith)) refl
+  few k e ts =
+      let u : upto ts (drop k ts) ≡ take k ts =
+      ap (λ x. upto x (drop k ts)) (sym (take-append-drop k ts)) ∙ upto_front (take k ts) (drop k ts) in
+      rw (le-leb 0 w.faults (omega arith), u) refl
 
   refusal : (c e : ℕ) (ts : List Token) → crowded w.faults (bind (stated_by (Err c) e ts) (made ts)) ≡ stop (fault_of_host c (span_here e ts))
   unfolding stated_by bind crowded
@@ -183,29 +173,16 @@ module _ (w : Setting) (text : List ℕ) (h : Host) (all : List Token) (n : ℕ)
   stated_taken : (a : Result ℕ ℕ) (e : ℕ) (ts : List Token) (i : Item) (fs : List Fault) (e' : ℕ) (m : List Token)
       → crowded w.faults (bind (stated_by a e ts) (made ts)) ≡ got i fs e' m → Taken e ts i e' m
   stated_taken (Err c) e ts i fs e' m p = never (sym p ∙ refusal c e ts)
-  stated_taken (Ok k) e ts i fs e' m p =
-      let q = sym (few k e ts) ∙ p in
-      let r : record { tokens = upto ts (drop k ts); clause = stated } ≡ i = cc in
-      let s : drop k ts ≡ m = cc in
-      let v : last_end e (take k ts) ≡ e' = cc in
-      let u : upto ts (drop k ts) ≡ take k ts =
-      ap (λ x. upto x (drop k ts)) (sym (take-append-drop k ts)) ∙ upto_front (take k ts) (drop k ts) in
-      let z : i.tokens ≡ take k ts = sym (ap (λ (j : Item). j.tokens) r) ∙ u in
-      record {
-        is = sym (take-append-drop k ts) ∙ ap (λ x. x ++ drop k ts) (sym z) ∙ ap (λ x. i.tokens ++ x) s;
-        end = sym v ∙ ap (last_end e) (sym z);
-      }
+  stated_taken (Ok k) e ts i fs e' m p = taken_as (sym (few k e ts) ∙ p) (record { is = sym (take-append-drop k ts); end = refl })
 
-  stated_begins : (a : Result ℕ ℕ) → h.statement all n ≡ a → (e : ℕ) (t : Token) (x : List Token) (i : Item) (fs : List Fault) (e' : ℕ) (m : List Token)
-      → crowded w.faults (bind (stated_by a e (t ∷ x)) (made (t ∷ x))) ≡ got i fs e' m → Begins t i
-  stated_begins (Err c) q e t x i fs e' m p = never (sym p ∙ refusal c e (t ∷ x))
-  stated_begins (Ok zero) q e t x i fs e' m p = absurd (omega (arith, (h.statement_lawful all n 0 q).some))
-  stated_begins (Ok (suc k)) q e t x i fs e' m p =
+  stated_first : (a : Result ℕ ℕ) → h.statement all n ≡ a → (e : ℕ) (t : Token) (x : List Token) (i : Item) (fs : List Fault) (e' : ℕ) (m : List Token)
+      → crowded w.faults (bind (stated_by a e (t ∷ x)) (made (t ∷ x))) ≡ got i fs e' m → First e t x i e' m
+  stated_first (Err c) q e t x i fs e' m p = never (sym p ∙ refusal c e (t ∷ x))
+  stated_first (Ok zero) q e t x i fs e' m p = absurd (omega (arith, (h.statement_lawful all n 0 q).some))
+  stated_first (Ok (suc k)) q e t x i fs e' m p =
       let r = sym (few (suc k) e (t ∷ x)) ∙ p in
-      let v : record { tokens = upto (t ∷ x) (drop k x); clause = stated } ≡ i = cc in
-      let u : upto (t ∷ x) (drop k x) ≡ t ∷ take k x =
-      ap (λ y. upto (t ∷ y) (drop k x)) (sym (take-append-drop k x)) ∙ upto_front (t ∷ take k x) (drop k x) in
-      record { part = take k x; is = sym (ap (λ (j : Item). j.tokens) v) ∙ u }
+      let v : record { tokens = t ∷ take k x; clause = stated } ≡ i = cc in
+      record { taken = stated_taken (Ok (suc k)) e (t ∷ x) i fs e' m p; part = take k x; begins = sym (ap (λ (j : Item). j.tokens) v) }
 
   -- any item
   module _ (e : ℕ) (t : Token) (x : List Token) where
@@ -217,12 +194,10 @@ module _ (w : Setting) (text : List ℕ) (h : Host) (all : List Token) (n : ℕ)
 
     cases : (C : Type 0) → (import_follows (t ∷ x) ≡ true → C) → (import_follows (t ∷ x) ≡ false → same t.kind Export ≡ true → C)
         → (import_follows (t ∷ x) ≡ false → same t.kind Export ≡ false → C) → C
-    cases C f g k = go (import_follows (t ∷ x)) (same t.kind Export) refl refl
-      where
-        go : (u v : Bool) → import_follows (t ∷ x) ≡ u → same t.kind Export ≡ v → C
-        go true v p q = f p
-        go false true p q = g p q
-        go false false p q = k p q
+    cases C f g k = elim (cases_Bool (import_follows (t ∷ x))) [
+      | inl p ↦ f p
+      | inr p ↦ elim (cases_Bool (same t.kind Export)) [ inl q ↦ g p q | inr q ↦ k p q ]
+    ]
 
     stop_first : (f : Fault) → item w text h all n e (t ∷ x) ≡ stop f → Stop site e (t ∷ x) f
     unfolding next
@@ -231,53 +206,50 @@ module _ (w : Setting) (text : List ℕ) (h : Host) (all : List Token) (n : ℕ)
         (λ a b. stop_of w text site t e export_seen (sym (export_is w text t h all n e x a b) ∙ p))
         (λ a b. stated_stop (h.statement all n) refl e (t ∷ x) f (sym (stated_is e (t ∷ x) a b) ∙ p))
 
-    taken_first : (i : Item) (fs : List Fault) (e' : ℕ) (m : List Token) → item w text h all n e (t ∷ x) ≡ got i fs e' m → Taken e (t ∷ x) i e' m
+    pub first_law : (i : Item) (fs : List Fault) (e' : ℕ) (m : List Token) → item w text h all n e (t ∷ x) ≡ got i fs e' m → First e t x i e' m
     unfolding next
-    taken_first i fs e' m p = cases (Taken e (t ∷ x) i e' m)
+    first_law i fs e' m p = cases (First e t x i e' m)
         (λ a. let q = sym (import_is w text t h all n e x a) ∙ p in
-        taken_of w text site t e import_seen q (crowded_tokens w.faults (t ∷ x) (add (esc t) (import_rest w text t.span.end x)) q))
+        first_of w text site t e import_seen q (crowded_tokens w.faults (t ∷ x) (add (esc t) (import_rest w text t.span.end x)) q))
         (λ a b. let q = sym (export_is w text t h all n e x a b) ∙ p in
-        taken_of w text site t e export_seen q (crowded_tokens w.faults (t ∷ x) (add (esc t) (export_clause w text h all (n + 1) t.span.end x)) q))
-        (λ a b. stated_taken (h.statement all n) e (t ∷ x) i fs e' m (sym (stated_is e (t ∷ x) a b) ∙ p))
-
-    pub begins_first : (i : Item) (fs : List Fault) (e' : ℕ) (m : List Token) → item w text h all n e (t ∷ x) ≡ got i fs e' m → Begins t i
-    unfolding next
-    begins_first i fs e' m p = cases (Begins t i)
-        (λ a. let q = sym (import_is w text t h all n e x a) ∙ p in
-        begins_of w text site t import_seen q (crowded_tokens w.faults (t ∷ x) (add (esc t) (import_rest w text t.span.end x)) q))
-        (λ a b. let q = sym (export_is w text t h all n e x a b) ∙ p in
-        begins_of w text site t export_seen q (crowded_tokens w.faults (t ∷ x) (add (esc t) (export_clause w text h all (n + 1) t.span.end x)) q))
-        (λ a b. stated_begins (h.statement all n) refl e t x i fs e' m (sym (stated_is e (t ∷ x) a b) ∙ p))
+        first_of w text site t e export_seen q (crowded_tokens w.faults (t ∷ x) (add (esc t) (export_clause w text h all (n + 1) t.span.end x)) q))
+        (λ a b. stated_first (h.statement all n) refl e t x i fs e' m (sym (stated_is e (t ∷ x) a b) ∙ p))
 
     span_first : (i : Item) (fs : List Fault) (e' : ℕ) (m : List Token) → item w text h all n e (t ∷ x) ≡ got i fs e' m
         → span_of i.tokens ≡ record { start = t.span.start; end = e' }
     unfolding span_of last_end
     span_first i fs e' m p =
-        let b = begins_first i fs e' m p in
-        let q : last_end t.span.end b.part ≡ e' = sym ((taken_first i fs e' m p).end ∙ ap (last_end e) b.is) in
-        ap span_of b.is ∙ ap (λ y. record { start = t.span.start; end = y }) q
+        let b = first_law i fs e' m p in
+        let q : last_end t.span.end b.part ≡ e' = sym (b.taken.end ∙ ap (last_end e) b.begins) in
+        ap span_of b.begins ∙ ap (λ y. record { start = t.span.start; end = y }) q
+
+    pub shorter : (i : Item) (fs : List Fault) (e' : ℕ) (m : List Token) → item w text h all n e (t ∷ x) ≡ got i fs e' m → length m < length (t ∷ x)
+    shorter i fs e' m p =
+        let b = first_law i fs e' m p in
+        omega (arith, ap length b.taken.is, length-append i.tokens m, ap length b.begins)
 
   pub stop_law : (e : ℕ) (ts : List Token) (f : Fault) → item w text h all n e ts ≡ stop f → Stop site e ts f
   stop_law e [] f p = stated_stop (h.statement all n) refl e [] f (sym (stated_is e [] not_import not_export) ∙ p)
   stop_law e (t ∷ x) f p = stop_first e t x f p
 
-  pub taken_law : (e : ℕ) (ts : List Token) (i : Item) (fs : List Fault) (e' : ℕ) (m : List Token) → item w text h all n e ts ≡ got i fs e' m → Taken e ts i e' m
+  taken_law : (e : ℕ) (ts : List Token) (i : Item) (fs : List Fault) (e' : ℕ) (m : List Token) → item w text h all n e ts ≡ got i fs e' m → Taken e ts i e' m
   taken_law e [] i fs e' m p = stated_taken (h.statement all n) e [] i fs e' m (sym (stated_is e [] not_import not_export) ∙ p)
-  taken_law e (t ∷ x) i fs e' m p = taken_first e t x i fs e' m p
+  taken_law e (t ∷ x) i fs e' m p = (first_law e t x i fs e' m p).taken
+
+pub no_import : (ts : List Token) → at Export ts ≡ true → import_follows ts ≡ false
+unfolding import_follows
+no_import ts h = and_left _ _ (seen Import (same_is (next ts).kind Export h) refl)
 
 -- where no host is asked
 module _ (w : Setting) (text : List ℕ) (t : Token) where
   -- an export that goes on with K wherever the next token is that of x
-  free_is : (K : Reader Clause) (x : List Token) → import_follows (t ∷ x) ≡ false → same t.kind Export ≡ true
+  free_is : (K : Reader Clause) (x : List Token) → same t.kind Export ≡ true
       → ((h : Host) (all : List Token) (n e : ℕ) (x' : List Token) → SameNext x x' → export_clause w text h all n e x' ≡ K e x')
       → (e : ℕ) (x' : List Token) → SameNext x x' → (h : Host) (all : List Token) (n : ℕ) → item w text h all n e (t ∷ x') ≡ body w.faults t (esc t) K t.span.end x'
-  free_is K x f g k e x' s h all n =
-      export_is w text t h all n e x' (sym (follows_same w text t s) ∙ f) g
+  unfolding next
+  free_is K x g k e x' s h all n =
+      export_is w text t h all n e x' (sym (follows_same w text t s) ∙ no_import (t ∷ x) g) g
       ∙ ap (λ o. crowded w.faults (bind (add (esc t) o) (made (t ∷ x')))) (k h all (n + 1) t.span.end x' s)
-
-  no_import : (x : List Token) → same t.kind Export ≡ true → import_follows (t ∷ x) ≡ false
-  unfolding import_follows next
-  no_import x h = and_left _ _ (seen Import (same_is t.kind Export h) refl)
 
   star_is : (x : List Token) → at Star x ≡ true → (h : Host) (all : List Token) (n e : ℕ) (x' : List Token) → SameNext x x' → export_clause w text h all n e x' ≡ export_all w text e x'
   unfolding export_clause test
@@ -296,21 +268,22 @@ module _ (w : Setting) (text : List ℕ) (t : Token) where
       let k : (next x').kind ≡ Import = ap (λ u. u.kind) (sym (next_same s)) ∙ same_is (next x).kind Import g in
       rw (seen Star k refl, seen LCurly k refl, seen Default k refl, seen Import k refl) refl
 
-  pub alike_law : (h : Host) (all : List Token) (n e : ℕ) (x : List Token) (f : Fault) → NoHost (t ∷ x) → item w text h all n e (t ∷ x) ≡ stop f → SameStop w text (record { host = h; all = all; first = n }) e (t ∷ x) f
-  unfolding next rest
-  alike_law h all n e x f (an_import a) p =
-      let eqs : (x' : List Token) → SameNext x x' → (h : Host) (all : List Token) (n : ℕ) → item w text h all n e (t ∷ x') ≡ body w.faults t (esc t) (import_rest w text) t.span.end x'
-      = λ x' s h all n. import_is w text t h all n e x' (sym (follows_same w text t s) ∙ a) in
-      same_of w text (record { host = h; all = all; first = n }) t (import_rest w text) e eqs (import_seen w text h all n e t x) (sym (eqs x (self x) h all n) ∙ p)
-  alike_law h all n e x f (all_of b c) p =
-      let eqs = free_is (export_all w text) x (no_import x b) b (star_is x c) e in
-      same_of w text (record { host = h; all = all; first = n }) t (export_all w text) e eqs (body_here (record { host = h; all = all; first = n }) w.faults t (esc t) (export_all_here (record { host = h; all = all; first = n }) w text (t ∷ []) t.span.end x c)) (sym (eqs x (self x) h all n) ∙ p)
-  alike_law h all n e x f (some_of b c) p =
-      let eqs = free_is (export_braces w text) x (no_import x b) b (braces_is x c) e in
-      same_of w text (record { host = h; all = all; first = n }) t (export_braces w text) e eqs (body_here (record { host = h; all = all; first = n }) w.faults t (esc t) (export_braces_here (record { host = h; all = all; first = n }) w text (t ∷ []) t.span.end x c)) (sym (eqs x (self x) h all n) ∙ p)
-  alike_law h all n e x f (foreign b c) p =
-      let eqs = free_is (stop_at Foreign) x (no_import x b) b (import_stops x c) e in
-      same_of w text (record { host = h; all = all; first = n }) t (stop_at Foreign) e eqs (body_here (record { host = h; all = all; first = n }) w.faults t (esc t) (here_stop_at (record { host = h; all = all; first = n }) Foreign (imports c))) (sym (eqs x (self x) h all n) ∙ p)
+  module _ (h : Host) (all : List Token) (n e : ℕ) (x : List Token) (f : Fault) where
+    alike_first : (K : Reader Clause)
+        → ((x' : List Token) → SameNext x x' → (h : Host) (all : List Token) (n : ℕ) → item w text h all n e (t ∷ x') ≡ body w.faults t (esc t) K t.span.end x')
+        → Here (site w text h all n) (t ∷ []) K t.span.end x → item w text h all n e (t ∷ x) ≡ stop f → SameStop w text (site w text h all n) e (t ∷ x) f
+    alike_first K eqs s p = same_of w text (site w text h all n) t K e eqs (body_here (site w text h all n) w.faults t (esc t) s) (sym (eqs x (self x) h all n) ∙ p)
+
+    pub alike_law : NoHost (t ∷ x) → item w text h all n e (t ∷ x) ≡ stop f → SameStop w text (site w text h all n) e (t ∷ x) f
+    unfolding next rest
+    alike_law (an_import a) p =
+        alike_first (import_rest w text) (λ x' s h all n. import_is w text t h all n e x' (sym (follows_same w text t s) ∙ a)) (import_local (site w text h all n) w text (t ∷ []) t.span.end x) p
+    alike_law (all_of b c) p =
+        alike_first (export_all w text) (free_is (export_all w text) x b (star_is x c) e) (export_all_here (site w text h all n) w text (t ∷ []) t.span.end x c) p
+    alike_law (some_of b c) p =
+        alike_first (export_braces w text) (free_is (export_braces w text) x b (braces_is x c) e) (export_braces_here (site w text h all n) w text (t ∷ []) t.span.end x c) p
+    alike_law (foreign b c) p =
+        alike_first (stop_at Foreign) (free_is (stop_at Foreign) x b (import_stops x c) e) (here_stop_at (site w text h all n) Foreign (imports c)) p
 
 asked : {C : Type 0} → NoHost [] → C
 asked d = go d refl

@@ -1,11 +1,11 @@
 -- Each reader takes what stands at the front, and looks at nothing behind the token come to.
 use Rattle.std.proofs.Common.{◌≡◌, ℕ, zero, suc, ◌+◌, ◌≤◌, Bool, true, false, not, ◌&&◌, ◌||◌, eqb, ◌⊎◌, List, [], ◌∷◌, ◌++◌, map, length, get_or, take, drop, Some, None, Ok, Err, Option, Result, sym, refl, ap, ◌∙◌, subst, inl, inr, arith, length-append, take-append-drop}
 use Rattle.std.specs.List.{slice_get}
-use Rattle.std.proofs.lemmas.Bool.{or_parts, or_left, or_cases, not-false, eq-eqb, and_parts}
+use Rattle.std.proofs.lemmas.Bool.{cases_Bool, or_parts, or_left, or_cases, not-false, eq-eqb, and_parts}
 use Rattle.kinds.specs.declared.kind.Kind.{Kind}
 use Rattle.kinds.specs.declared.kind.Kind.TheVariants.{Eof, Str, Undetermined, Import, Export, Default, From, As, Star, LCurly, RCurly, Comma, Colon, Semicolon, Eq, Defer, Source, With, Assert}
 use Rattle.kinds.specs.Numbers.{number, same}
-use Rattle.kinds.specs.Classes.{has, is_reserved, is_contextual, is_strict, is_future, is_keyword, is_identifier_name, is_identifier, is_binding}
+use Rattle.kinds.specs.Classes.{is_identifier_name, is_binding}
 use Rattle.lexer.specs.declared.token.Token.{Token}
 use Rattle.lexer.specs.declared.token.Span.{Span}
 use Rattle.lexer.specs.Tokens.{ended}
@@ -19,74 +19,42 @@ use Rattle.reading.specs.declared.naming.Naming.{Naming}
 use Rattle.reading.specs.Ahead.{next, rest, span_here, at, attributes_follow}
 use Rattle.reading.specs.Settings.{Setting}
 use Rattle.reading.specs.Readings.{Clause, all_from, names_from, declared, defaulted, last_end, tokens_at, named}
-use Rattle.reading.specs.Steps.{Out, stop, got, Reader, stop_at, add, bind, test, esc, token, none, word, str, identifier, binding, name, ending}
+use Rattle.reading.specs.Steps.{stop, got, Reader, stop_at, add, bind, test, esc, token, none, word, str, identifier, binding, name, ending}
 use Rattle.reading.specs.Braces.{closes, separator, elements, inside, braced}
 use Rattle.reading.specs.Attributes.{key, attribute, repeats, attributes}
 use Rattle.reading.specs.Imports.{local, alias, specifier, from_source, star_alias, star_with_source, braces_with_source, room_by, via_star, via_braces, after_default, after_defer, after_source_name, after_source, after_binding, form}
 use Rattle.reading.specs.Exports.{export_specifier, locals, sourced, export_all, export_braces, room_for, declared_by, defaulted_by, second_export, export_clause}
 use Rattle.reading.specs.Laws.{Site, Refuses, SameNext, both_end, both_go_on, Opened, opened, Why, no_from, no_as, no_open, no_colon, no_close, no_form, no_string, no_name, no_binding, no_more, unclosed, unended, no_value, lone, equals, imports, refused, full, no_room}
-use Rattle.reading.proofs.Clean.{clash}
-use Rattle.reading.proofs.OfKinds.{same_is, seen}
+use Rattle.reading.proofs.Clean.{clash, never, bound_got, tested_got}
+use Rattle.reading.proofs.OfKinds.{classed, same_is, seen}
 use Rattle.reading.proofs.Attrs.{keyword}
 use Rattle.reading.proofs.Local.{next_same, span_same, opened_more, Seen, taken, Here, LocalAt, Local, as_other, local_got, here_stop, here_stop_at, here_add, here_test, local_if, after, after_to, here_token, after_token}
-
-ended_binding : is_binding ended.kind ≡ false
-unfolding is_binding is_identifier is_identifier_name is_keyword is_reserved is_contextual is_strict is_future has same
-ended_binding = refl
-
-ended_name : is_identifier_name ended.kind ≡ false
-unfolding is_identifier_name is_keyword is_reserved is_contextual is_strict is_future has same
-ended_name = refl
-
--- how a reading in steps came to its answer
-pub never : {A C : Type 0} {a : A} {fs : List Fault} {e : ℕ} {m : List Token} {f : Fault} → got a fs e m ≡ stop f → C
-never p = let z : ◌≡◌ {A = ℕ} 0 1 = cc in absurd (omega arith)
-
-unadded : {A : Type 0} (fs : List Fault) (o : Out A) {a : A} {gs : List Fault} {e : ℕ} {m : List Token} {C : Type 0}
-    → add fs o ≡ got a gs e m → ((hs : List Fault) → o ≡ got a hs e m → C) → C
-unfolding add
-unadded fs (stop f) p k = never (sym p)
-unadded fs (got b hs e₁ n) p k = k hs cc
-
-bound_got : {A B C : Type 0} (o : Out A) (k : A → Reader B) {b : B} {fs : List Fault} {e : ℕ} {m : List Token} → bind o k ≡ got b fs e m
-    → ((a : A) (gs : List Fault) (e₁ : ℕ) (n : List Token) (hs : List Fault) → o ≡ got a gs e₁ n → k a e₁ n ≡ got b hs e m → C) → C
-unfolding bind
-bound_got (stop f) k p c = never (sym p)
-bound_got (got a gs e₁ n) k p c = unadded gs (k a e₁ n) p (λ hs q. c a gs e₁ n hs refl q)
-
-tested_got : {A C : Type 0} (b : Bool) (x y : Out A) {o : Out A} → test b x y ≡ o → (b ≡ true → x ≡ o → C) → (b ≡ false → y ≡ o → C) → C
-unfolding test
-tested_got true x y p f g = f refl p
-tested_got false x y p f g = g refl p
 
 -- a brace list ends before the close, the end or an Undetermined token
 separator_ends : (brace : Span) (e : ℕ) (ts : List Token) {b : Bool} {fs : List Fault} {e' : ℕ} {m : List Token}
     → separator RCurly brace e ts ≡ got b fs e' m → b ≡ false → closes RCurly m ≡ true
 unfolding separator closes
-separator_ends brace e ts {b = b} {m = m} p z = tested_got (at RCurly ts) _ _ p
-    (λ h q. let r : ts ≡ m = cc in subst (λ x. closes RCurly x ≡ true) r (or_left _ _ h))
+separator_ends brace e ts p z = tested_got (at RCurly ts) _ _ p
+    (λ h q. let c : closes RCurly ts ≡ true = or_left _ _ h in cc)
     (λ _ q. tested_got (at Comma ts) _ _ q
     (λ _ q₁. bound_got (word Comma e ts) _ q₁ λ t gs e₁ n hs _ q₂.
-    let r : n ≡ m = cc in let u : not (closes RCurly n) ≡ b = cc in
-    subst (λ x. closes RCurly x ≡ true) r (not-false (closes RCurly n) (u ∙ z)))
+    let c : not (closes RCurly n) ≡ false = cc in let d = not-false (closes RCurly n) c in cc)
     (λ _ q₁. never (sym q₁)))
 
 elements_end : {A : Type 0} (p : Reader A) (brace : Span) (room e : ℕ) (ts : List Token) {l : List A} {fs : List Fault} {e' : ℕ} {m : List Token}
     → elements p RCurly brace room e ts ≡ got l fs e' m → closes RCurly m ≡ true
 unfolding elements stop_at
 elements_end p brace zero e ts q = never (sym q)
-elements_end p brace (suc room) e ts {m = m} q =
+elements_end p brace (suc room) e ts q =
     bound_got (p e ts) _ q λ a gs e₁ n hs _ q₁. bound_got (separator RCurly brace e₁ n) _ q₁ λ b gs₂ e₂ o hs₂ z q₂. tested_got b _ _ q₂
-    (λ _ q₃. bound_got (elements p RCurly brace room e₂ o) _ q₃ λ l gs₃ e₃ r hs₃ z₃ q₄.
-    let u : r ≡ m = cc in subst (λ x. closes RCurly x ≡ true) u (elements_end p brace room e₂ o z₃))
-    (λ f q₃. let u : o ≡ m = cc in subst (λ x. closes RCurly x ≡ true) u (separator_ends brace e₁ n z f))
+    (λ _ q₃. bound_got (elements p RCurly brace room e₂ o) _ q₃ λ l gs₃ e₃ r hs₃ z₃ q₄. let c = elements_end p brace room e₂ o z₃ in cc)
+    (λ f q₃. let c = separator_ends brace e₁ n z f in cc)
 
 inside_ends : {A : Type 0} (p : Reader A) (brace : Span) (room e : ℕ) (ts : List Token) {l : List A} {fs : List Fault} {e' : ℕ} {m : List Token}
     → inside p RCurly brace room e ts ≡ got l fs e' m → closes RCurly m ≡ true
 unfolding inside closes
-inside_ends p brace room e ts {m = m} q = tested_got (at RCurly ts) _ _ q
-    (λ h z. let r : ts ≡ m = cc in subst (λ x. closes RCurly x ≡ true) r (or_left _ _ h))
-    (λ _ z. elements_end p brace room e ts z)
+inside_ends p brace room e ts q = tested_got (at RCurly ts) _ _ q
+    (λ h z. let c : closes RCurly ts ≡ true = or_left _ _ h in cc) (λ _ z. elements_end p brace room e ts z)
 
 closes_rest : (m : List Token) → closes RCurly m ≡ true → at RCurly m ≡ false → (at Eof m || at Undetermined m) ≡ true
 unfolding closes
@@ -116,41 +84,35 @@ module _ (site : Site) where
   value_then l e ts = after_token site NoString (λ t. same t.kind Str) none (seen Str refl refl) e ts (λ h. no_value h) (λ t h. l t)
 
   identifier_local : {front : List Token} → LocalAt site front identifier
-  identifier_local e ts = here_token site Unexpected (λ t. is_identifier_name t.kind) none ended_name e ts (λ h. no_name h)
+  identifier_local e ts = here_token site Unexpected (λ t. is_identifier_name t.kind) none classed.eof_unnamed e ts (λ h. no_name h)
 
   binding_then : {B : Type 0} {K : Token → Reader B} {front : List Token}
       → ((t : Token) → LocalAt site (front ++ (t ∷ [])) (K t)) → LocalAt site front (λ e ts. bind (binding Unexpected e ts) K)
-  binding_then l e ts = after_token site Unexpected (λ t. is_binding t.kind) none ended_binding e ts (λ h. no_binding h) (λ t h. l t)
+  binding_then l e ts = after_token site Unexpected (λ t. is_binding t.kind) none classed.eof_unbound e ts (λ h. no_binding h) (λ t h. l t)
 
   -- a string as a name
   string_name : Reader Token
   string_name e ts = bind (str Unexpected e ts) λ t e₁ m. test t.lone (stop (fault_at LoneName t.span)) (got t [] e₁ m)
 
-  string_is : (t : Token) (e : ℕ) (y : List Token) → same t.kind Str ≡ true → string_name e (t ∷ y) ≡ add [] (test t.lone (stop (fault_at LoneName t.span)) (got t [] t.span.end y))
-  unfolding string_name token next rest test bind
-  string_is t e y h =
-      ap (λ b. bind (test b (got t [] t.span.end y) (stop_at Unexpected e (t ∷ y))) (λ t e₁ m. test t.lone (stop (fault_at LoneName t.span)) (got t [] e₁ m))) h
-
   lone_is : (t : Token) (e : ℕ) (y : List Token) → same t.kind Str ≡ true → t.lone ≡ true → string_name e (t ∷ y) ≡ stop (fault_at LoneName t.span)
-  unfolding test add
-  lone_is t e y h o = string_is t e y h ∙ ap (λ b. add [] (test b (stop (fault_at LoneName t.span)) (got t [] t.span.end y))) o
+  unfolding string_name token next rest test bind add
+  lone_is t e y h o = rw (h, o) refl
 
   well_formed_is : (t : Token) (e : ℕ) (y : List Token) → same t.kind Str ≡ true → t.lone ≡ false → string_name e (t ∷ y) ≡ got t [] t.span.end y
-  unfolding test add
-  well_formed_is t e y h o = string_is t e y h ∙ ap (λ b. add [] (test b (stop (fault_at LoneName t.span)) (got t [] t.span.end y))) o
+  unfolding string_name token next rest test bind add
+  well_formed_is t e y h o = rw (h, o) refl
 
   string_local_name : {front : List Token} (e : ℕ) (ts : List Token) → at Str ts ≡ true → Here site front string_name e ts
   unfolding next span_here last_end
   string_local_name e [] h = clash (seen Str refl refl) h
-  string_local_name {front = front} e (t ∷ x) h = go t.lone refl
+  string_local_name {front = front} e (t ∷ x) h = elim (cases_Bool t.lone) [
+    | inl o ↦ as_other site (λ e y. stop (fault_at LoneName (span_here e y))) (λ y s. same_lone y s o)
+        (here_stop site (λ e ts. fault_at LoneName (span_here e ts)) (λ m m' s. ap (fault_at LoneName) (span_same e s)) (lone h o))
+    | inr o ↦ subst (λ z. Seen site front string_name e (t ∷ x) z) (sym (well_formed_is t e x h o)) (taken (t ∷ []) x (λ m' s. well_formed_is t e m' h o))
+  ]
     where
       same_lone : (y : List Token) → SameNext (t ∷ x) y → t.lone ≡ true → string_name e y ≡ stop (fault_at LoneName (span_here e y))
       same_lone y both_go_on o = lone_is t e _ h o
-
-      go : (v : Bool) → t.lone ≡ v → Here site front string_name e (t ∷ x)
-      go true o = as_other site (λ e y. stop (fault_at LoneName (span_here e y))) (λ y s. same_lone y s o)
-          (here_stop site (λ e ts. fault_at LoneName (span_here e ts)) (λ m m' s. ap (fault_at LoneName) (span_same e s)) (lone h o))
-      go false o = subst (λ z. Seen site front string_name e (t ∷ x) z) (sym (well_formed_is t e x h o)) (taken (t ∷ []) x (λ m' s. well_formed_is t e m' h o))
 
   name_local : Local site name
   unfolding name string_name
@@ -300,7 +262,7 @@ module _ (site : Site) where
     form_local front e ts = here_test site (λ t. same t.kind Str) (λ _. string_then (λ s _. local_got site _) e ts)
         (λ a. here_test site (λ t. same t.kind Star) (λ h. via_star_here phase.Evaluation None front e ts h)
         (λ b. here_test site (λ t. same t.kind LCurly) (λ h. via_braces_here phase.Evaluation None front e ts h)
-        (λ c. after_token site Expected (λ t. is_binding t.kind) none ended_binding e ts (λ h. no_form h a b c) (λ t _. binding_local t _))))
+        (λ c. after_token site Expected (λ t. is_binding t.kind) none classed.eof_unbound e ts (λ h. no_form h a b c) (λ t _. binding_local t _))))
 
     -- exports
     out_local : Local site export_specifier

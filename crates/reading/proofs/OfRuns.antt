@@ -1,19 +1,17 @@
 -- Runs of items.
-use Rattle.std.proofs.Common.{◌≡◌, ℕ, zero, suc, ◌+◌, ◌<◌, ◌≤◌, List, [], ◌∷◌, ◌++◌, length, refl, ap, ◌∙◌, arith, length-append}
+use Rattle.std.proofs.Common.{◌≡◌, ℕ, zero, suc, ◌+◌, ◌≤◌, List, [], ◌∷◌, length, refl, ap, ◌∙◌, arith}
 use Rattle.std.proofs.lemmas.List.{append-nil}
 use Rattle.lexer.specs.declared.token.Token.{Token}
-use Rattle.pages.specs.declared.fault.Fault.{Fault}
 use Rattle.reading.specs.Settings.{Setting}
 use Rattle.reading.specs.Hosts.{Host}
 use Rattle.reading.specs.Readings.{Item, AllFit, upto}
 use Rattle.reading.specs.Steps.{got, add, bind}
-use Rattle.reading.specs.Items.{item, items, read_all}
+use Rattle.reading.specs.Items.{items, read_all}
 use Rattle.reading.specs.Grammar.{Items, no_items, an_item}
 use Rattle.reading.specs.Runs.{Paged, items_of, faults_of, Run, stays, goes, Clearly, ExactlyRuns}
 use Rattle.reading.proofs.Clean.{front_none}
-use Rattle.reading.proofs.Fronts.{by_item, some_less}
-use Rattle.reading.proofs.Whole.{item_sound, item_complete, after}
-use Rattle.reading.proofs.OfLaws.{taken_law, begins_first}
+use Rattle.reading.proofs.Whole.{item_sound, item_complete, after, some_left}
+use Rattle.reading.proofs.OfLaws.{shorter}
 
 module _ (w : Setting) (text : List ℕ) (h : Host) (all : List Token) where
   run_sound : {n e e' : ℕ} {ts rest : List Token} {ps : List Paged} → Run w text h all n e ts ps e' rest → faults_of ps ≡ []
@@ -25,19 +23,11 @@ module _ (w : Setting) (text : List ℕ) (h : Host) (all : List Token) where
 
   run_complete : (n e : ℕ) (ts : List Token) {is : List Item} {rest : List Token} → Items text h all n ts is rest → AllFit w is → Clearly w text h all n e ts is rest
   run_complete n e ts no_items f = record { past = e; run = stays }
-  run_complete n e [] (an_item c d) f = absurd (omega (arith, some_less (by_item c)))
+  run_complete n e [] (an_item c d) f = absurd (some_left c refl)
   run_complete n e (t ∷ ts) (an_item {m = m} c d) f =
       let y = item_complete w text h all n e c f.0 in
       let r = run_complete (n + length (upto (t ∷ ts) m)) y.past m d f.1 in
       record { past = r.past; run = goes y.is r.run }
-
-  -- an item takes a token
-  takes_some : (n e : ℕ) (t : Token) (ts : List Token) (i : Item) (fs : List Fault) (e₁ : ℕ) (m : List Token) → item w text h all n e (t ∷ ts) ≡ got i fs e₁ m → length m < length (t ∷ ts)
-  takes_some n e t ts i fs e₁ m p =
-      let b = begins_first w text h all n e t ts i fs e₁ m p in
-      let k = (taken_law w text h all n e (t ∷ ts) i fs e₁ m p).is in
-      let u : t ∷ ts ≡ (t ∷ b.part) ++ m = k ∙ ap (λ x. x ++ m) b.is in
-      omega (arith, ap length u, length-append b.part m)
 
   run_items : (room n e : ℕ) {e' : ℕ} (ts : List Token) {ps : List Paged} → Run w text h all n e ts ps e' [] → length ts ≤ room
       → items w text h all room n e ts ≡ got (items_of ps) (faults_of ps) e' []
@@ -45,11 +35,9 @@ module _ (w : Setting) (text : List ℕ) (h : Host) (all : List Token) where
   run_items room n e [] stays l = refl
   run_items zero n e (t ∷ ts) r l = absurd (omega arith)
   run_items (suc room) n e {e' = e'} (t ∷ ts) (goes {e₁ = e₁} {m = m} {i = i} {fs = fs} {ps = ps} q r) l =
-      let s = takes_some n e t ts i fs e₁ m q in
+      let s = shorter w text h all n e t ts i fs e₁ m q in
       let z = run_items room (n + length i.tokens) e₁ m r (omega arith) in
-      ap (λ o. bind o (λ i e₁ m. bind (items w text h all room (n + length i.tokens) e₁ m) λ is e₂ r. got (i ∷ is) [] e₂ r)) q
-      ∙ ap (λ o. add fs (bind o (λ is e₂ r. got (i ∷ is) [] e₂ r))) z
-      ∙ ap (λ gs. got (i ∷ items_of ps) (fs ++ gs) e' []) (append-nil (faults_of ps))
+      rw (q, z, append-nil (faults_of ps)) refl
 
 pub exact_runs : ExactlyRuns
 unfolding read_all

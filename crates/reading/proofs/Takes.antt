@@ -1,82 +1,62 @@
 -- Elements take at least one token.
-use Rattle.std.proofs.Common.{◌≡◌, ℕ, ◌<◌, ◌≤◌, Bool, true, false, List, [], ◌∷◌, length, refl, subst, arith}
+use Rattle.std.proofs.Common.{◌≡◌, ℕ, ◌<◌, ◌≤◌, Bool, false, List, [], ◌∷◌, length, sym, refl, ap, arith}
 use Rattle.kinds.specs.declared.kind.Kind.{Kind}
 use Rattle.kinds.specs.declared.kind.Kind.TheVariants.{Str, As, Colon}
 use Rattle.kinds.specs.Numbers.{same}
-use Rattle.kinds.specs.Classes.{has, is_reserved, is_contextual, is_strict, is_future, is_keyword, is_identifier_name}
+use Rattle.kinds.specs.Classes.{is_identifier_name}
 use Rattle.lexer.specs.declared.token.Token.{Token}
 use Rattle.lexer.specs.Tokens.{ended}
 use Rattle.pages.specs.declared.fault.Fault.{Fault}
 use Rattle.pages.specs.declared.fault.FaultKind.{FaultKind}
 use Rattle.pages.specs.declared.fault.FaultKind.TheVariants.{Expected, Unexpected, NoString}
 use Rattle.reading.specs.Ahead.{next, rest, at}
-use Rattle.reading.specs.Steps.{Out, stop, got, Reader, stop_at, add, bind, test, esc, token, none, word, str, identifier, name}
+use Rattle.reading.specs.Steps.{got, stop_at, esc, token, none, word, str, identifier, name}
 use Rattle.reading.specs.Attributes.{key, attribute}
 use Rattle.reading.specs.Imports.{local, alias, specifier}
 use Rattle.reading.specs.Exports.{export_specifier}
 use Rattle.reading.specs.Main.{ElementsTakeOne}
-use Rattle.reading.proofs.OfKinds.{seen}
+use Rattle.reading.proofs.Clean.{clash, never, unadded, bound_got, tested_got}
+use Rattle.reading.proofs.OfKinds.{classed, seen}
 
--- fewer than n tokens are left
-abbrev Below : {A : Type 0} → ℕ → Out A → Type 0
-Below n (stop f) = Unit {0}
-Below n (got a fs e m) = length m < n
+-- one token
+token_less : (k : FaultKind) (p : Token → Bool) (w : Token → List Fault) (e : ℕ) (ts : List Token) {t : Token} {fs : List Fault} {e' : ℕ} {m : List Token}
+    → p ended ≡ false → token k p w e ts ≡ got t fs e' m → length m < length ts
+unfolding token next rest stop_at
+token_less k p w e [] z q = tested_got (p ended) _ _ q (λ h _. clash z h) (λ _ q₁. never (sym q₁))
+token_less k p w e (t ∷ ts) {m = m} z q = tested_got (p t) _ _ q (λ _ q₁. let r : ts ≡ m = cc in omega (arith, ap length r)) (λ _ q₁. never (sym q₁))
 
-below_add : {A : Type 0} (n : ℕ) (fs : List Fault) (o : Out A) → Below n o → Below n (add fs o)
-unfolding add
-below_add n fs (stop f) h = tt
-below_add n fs (got a gs e m) h = h
+word_less : (k : Kind) (e : ℕ) (ts : List Token) {t : Token} {fs : List Fault} {e' : ℕ} {m : List Token}
+    → same ended.kind k ≡ false → word k e ts ≡ got t fs e' m → length m < length ts
+word_less k e ts z q = token_less Expected (λ t. same t.kind k) esc e ts z q
 
-below_bind : {A B : Type 0} (n : ℕ) (o : Out A) (k : A → Reader B) → Below n o → ((a : A) (e : ℕ) (m : List Token) → length m < n → Below n (k a e m)) → Below n (bind o k)
-unfolding bind
-below_bind n (stop f) k h l = tt
-below_bind n (got a fs e m) k h l = below_add n fs (k a e m) (l a e m h)
+str_less : (k : FaultKind) (e : ℕ) (ts : List Token) {t : Token} {fs : List Fault} {e' : ℕ} {m : List Token} → str k e ts ≡ got t fs e' m → length m < length ts
+str_less k e ts q = token_less k (λ t. same t.kind Str) none e ts (seen Str refl refl) q
 
-below_test : {A : Type 0} (n : ℕ) (b : Bool) (x y : Out A) → Below n x → Below n y → Below n (test b x y)
-unfolding test
-below_test n true x y f g = f
-below_test n false x y f g = g
+identifier_less : (e : ℕ) (ts : List Token) {t : Token} {fs : List Fault} {e' : ℕ} {m : List Token} → identifier e ts ≡ got t fs e' m → length m < length ts
+identifier_less e ts q = token_less Unexpected (λ t. is_identifier_name t.kind) none e ts classed.eof_unnamed q
 
--- one token, where there are at most n
-below_token : (n : ℕ) (k : FaultKind) (p : Token → Bool) (w : Token → List Fault) (e : ℕ) (ts : List Token) → p ended ≡ false → length ts ≤ n → Below n (token k p w e ts)
-unfolding token next rest stop_at test
-below_token n k p w e [] z h = rw z tt
-below_token n k p w e (t ∷ ts) z h = below_test n (p t) _ _ (omega arith) tt
-
-below_word : (n : ℕ) (k : Kind) (e : ℕ) (ts : List Token) → same ended.kind k ≡ false → length ts ≤ n → Below n (word k e ts)
-below_word n k e ts z h = below_token n Expected (λ t. same t.kind k) esc e ts z h
-
-below_string : (n : ℕ) (k : FaultKind) (e : ℕ) (ts : List Token) → length ts ≤ n → Below n (str k e ts)
-below_string n k e ts h = below_token n k (λ t. same t.kind Str) none e ts (seen Str refl refl) h
-
-below_identifier : (n : ℕ) (e : ℕ) (ts : List Token) → length ts ≤ n → Below n (identifier e ts)
-unfolding is_identifier_name is_keyword is_reserved is_contextual is_strict is_future has same
-below_identifier n e ts h = below_token n Unexpected (λ t. is_identifier_name t.kind) none e ts refl h
-
-below_name : (n : ℕ) (e : ℕ) (ts : List Token) → length ts ≤ n → Below n (name e ts)
+name_less : (e : ℕ) (ts : List Token) {t : Token} {fs : List Fault} {e' : ℕ} {m : List Token} → name e ts ≡ got t fs e' m → length m < length ts
 unfolding name
-below_name n e ts h = below_test n (at Str ts) _ _
-    (below_bind n (str Unexpected e ts) _ (below_string n Unexpected e ts h) (λ t e₁ m l. below_test n t.lone _ _ tt l))
-    (below_identifier n e ts h)
+name_less e ts {m = m} q = tested_got (at Str ts) _ _ q
+    (λ _ q₁. bound_got (str Unexpected e ts) _ q₁ λ t _ e₁ n _ z q₂. tested_got t.lone _ _ q₂ (λ _ q₃. never (sym q₃))
+    (λ _ q₃. let r : n ≡ m = cc in omega (arith, ap length r, str_less Unexpected e ts z)))
+    (λ _ q₁. identifier_less e ts q₁)
 
-below_alias : (n : ℕ) (x : Token) (e : ℕ) (ts : List Token) → length ts < n → Below n (alias x e ts)
+alias_less : (x : Token) (e : ℕ) (ts : List Token) {t : Token} {fs : List Fault} {e' : ℕ} {m : List Token} → alias x e ts ≡ got t fs e' m → length m ≤ length ts
 unfolding alias
-below_alias n x e ts h = below_test n (at As ts) _ _
-    (below_bind n (word As e ts) _ (below_word n As e ts (seen As refl refl) (omega arith)) (λ t e₁ m l. below_name n e₁ m (omega arith))) h
-
--- what is left after a reader that takes one
-fewer : {A : Type 0} (n : ℕ) (o : Out A) {a : A} {fs : List Fault} {e : ℕ} {m : List Token} → Below n o → o ≡ got a fs e m → length m < n
-fewer n o h p = subst (λ x. Below n x) p h
+alias_less x e ts {m = m} q = tested_got (at As ts) _ _ q
+    (λ _ q₁. bound_got (word As e ts) _ q₁ λ _ _ e₁ n _ z q₂. omega (arith, word_less As e ts (seen As refl refl) z, name_less e₁ n q₂))
+    (λ _ q₁. let r : ts ≡ m = cc in omega (arith, ap length r))
 
 pub elements_take_one : ElementsTakeOne
 unfolding specifier export_specifier attribute key
 elements_take_one = record {
-  specifiers = λ e ts a fs e' m p. fewer (length ts) (specifier e ts) (below_bind (length ts) (name e ts) _ (below_name (length ts) e ts (omega arith))
-      (λ x e₁ m₁ l. below_bind (length ts) (alias x e₁ m₁) _ (below_alias (length ts) x e₁ m₁ l) (λ y e₂ m₂ l₂. below_add (length ts) (local y) _ l₂))) p;
-  exports = λ e ts a fs e' m p. fewer (length ts) (export_specifier e ts) (below_bind (length ts) (name e ts) _ (below_name (length ts) e ts (omega arith))
-      (λ x e₁ m₁ l. below_bind (length ts) (alias x e₁ m₁) _ (below_alias (length ts) x e₁ m₁ l) (λ y e₂ m₂ l₂. l₂))) p;
-  attributes = λ e ts a fs e' m p. fewer (length ts) (attribute e ts) (below_bind (length ts) (key e ts) _
-      (below_test (length ts) (at Str ts) _ _ (below_string (length ts) Unexpected e ts (omega arith)) (below_identifier (length ts) e ts (omega arith)))
-      (λ k e₁ m₁ l. below_bind (length ts) (word Colon e₁ m₁) _ (below_word (length ts) Colon e₁ m₁ (seen Colon refl refl) (omega arith))
-      (λ c e₂ m₂ l₂. below_bind (length ts) (str NoString e₂ m₂) _ (below_string (length ts) NoString e₂ m₂ (omega arith)) (λ v e₃ m₃ l₃. l₃)))) p;
+  specifiers = λ e ts a fs e' m q. bound_got (name e ts) _ q λ x _ e₁ n _ z q₁. bound_got (alias x e₁ n) _ q₁ λ y _ e₂ o _ z₁ q₂.
+      unadded (local y) _ q₂ λ _ q₃. let r : o ≡ m = cc in omega (arith, ap length r, name_less e ts z, alias_less x e₁ n z₁);
+  exports = λ e ts a fs e' m q. bound_got (name e ts) _ q λ x _ e₁ n _ z q₁. bound_got (alias x e₁ n) _ q₁ λ y _ e₂ o _ z₁ q₂.
+      let r : o ≡ m = cc in omega (arith, ap length r, name_less e ts z, alias_less x e₁ n z₁);
+  attributes = λ e ts a fs e' m q. bound_got (key e ts) _ q λ k _ e₁ n _ z q₁. bound_got (word Colon e₁ n) _ q₁ λ c _ e₂ o _ z₁ q₂.
+      bound_got (str NoString e₂ o) _ q₂ λ v _ e₃ r _ z₂ q₃.
+      let s : length n < length ts = tested_got (at Str ts) _ _ z (λ _ z'. str_less Unexpected e ts z') (λ _ z'. identifier_less e ts z') in
+      let u : r ≡ m = cc in omega (arith, s, ap length u, word_less Colon e₁ n (seen Colon refl refl) z₁, str_less NoString e₂ o z₂);
 }

@@ -1,7 +1,8 @@
 -- Whole modules.
-use Rattle.std.proofs.Common.{◌≡◌, ℕ, zero, suc, ◌+◌, ◌≤◌, true, false, List, [], ◌∷◌, ◌++◌, length, Ok, Err, Result, sym, refl, ap, ◌∙◌, subst, arith}
-use Rattle.std.proofs.lemmas.Bool.{and_left, le-leb}
-use Rattle.kinds.specs.declared.kind.Kind.TheVariants.{Import, Export}
+use Rattle.std.proofs.Common.{◌≡◌, ℕ, zero, suc, ◌+◌, ◌≤◌, true, false, List, [], ◌∷◌, ◌++◌, length, Ok, Err, Result, sym, refl, ap, ◌∙◌, append_assoc, arith}
+use Rattle.std.proofs.lemmas.List.{append-nil}
+use Rattle.std.proofs.lemmas.Bool.{le-leb}
+use Rattle.kinds.specs.declared.kind.Kind.TheVariants.{Export}
 use Rattle.lexer.specs.declared.token.Token.{Token}
 use Rattle.pages.specs.declared.fault.Fault.{Fault}
 use Rattle.pages.specs.declared.fault.FaultKind.TheVariants.{Full}
@@ -9,23 +10,25 @@ use Rattle.reading.specs.Ahead.{at, import_follows}
 use Rattle.reading.specs.Settings.{Setting}
 use Rattle.reading.specs.Hosts.{Host}
 use Rattle.reading.specs.Readings.{Clause, Item, upto, Fits, AllFit, specifiers_in, names_in, attributes_in, joined}
-use Rattle.reading.specs.Grammar.{Word, ItemClause, an_import, an_export, a_statement, Items, no_items, an_item, Module}
-use Rattle.reading.specs.Steps.{Out, stop, got, Reader, add, bind, stop_at, crowded, ending}
+use Rattle.reading.specs.Grammar.{one, ItemClause, an_import, an_export, a_statement, Items, no_items, an_item, Module}
+use Rattle.reading.specs.Steps.{Out, stop, got, stop_at, crowded, ending}
 use Rattle.reading.specs.Attributes.{attributes}
 use Rattle.reading.specs.Imports.{form, importing}
 use Rattle.reading.specs.Exports.{exporting}
 use Rattle.reading.specs.Items.{stated_by, clause, item, items, read_all}
-use Rattle.reading.specs.Main.{Cleanly, Exactly, OneReading, Splits, ExactlyItems, Clean, Fitting, pages_of}
-use Rattle.reading.proofs.Clean.{took, takes, bound_of, binds, tested, passes, fails, stopped, stopped_at, done, ends}
+use Rattle.reading.specs.Main.{Cleanly, Exactly, NoneEmpty, OneReading, Splits, ExactlyItems, Clean, Fitting, pages_of}
+use Rattle.reading.proofs.Clean.{took, takes, bound_of, binds, tested, passes, fails, stopped, stopped_at, done, ends, never, bound_got}
 use Rattle.reading.proofs.OfKinds.{import_right, export_right, word_at}
 use Rattle.reading.proofs.Forms.{form_sound, form_complete}
 use Rattle.reading.proofs.Attrs.{attributes_sound, attributes_complete, end_sound, end_complete}
 use Rattle.reading.proofs.OfExports.{export_sound, export_complete}
-use Rattle.reading.proofs.Fronts.{by_item, some_less, all_joined}
+use Rattle.reading.proofs.OfLaws.{first_law, shorter, no_import}
 
-no_import : {ts m : List Token} {t : Token} → Word Export ts t m → import_follows ts ≡ false
-unfolding import_follows
-no_import w = and_left _ _ (word_at Import w refl)
+-- an item is not read of nothing
+pub some_left : {text : List ℕ} {h : Host} {all : List Token} {n : ℕ} {ts rest : List Token} {c : Clause} → ItemClause text h all n ts c rest → ts ≡ [] → ⊥
+some_left (an_import f (one v) c a d) e = cc
+some_left (an_export (one v) c) e = cc
+some_left (a_statement i x q) e = cc
 
 -- the limit of faults
 uncrowded : {A : Type 0} (room : ℕ) (o : Out A) {a : A} {r : List Token} → Cleanly (crowded room o) a r → Cleanly o a r
@@ -67,7 +70,7 @@ module _ (w : Setting) (text : List ℕ) (h : Host) (all : List Token) where
   unfolding clause importing exporting stated_by
   clause_complete n e (an_import f v c a d) q = passes _ f (takes e _ import_right v λ e₁. binds _ (form_complete w e₁ c q.specifiers) λ e₂.
       binds _ (attributes_complete w text e₂ a q.attributes) λ e₃. binds _ (end_complete e₃ d) λ e₄. ends)
-  clause_complete n e (an_export v c) q = fails _ (no_import v) (passes _ (word_at Export v refl) (takes e _ export_right v λ e₁.
+  clause_complete n e (an_export v c) q = fails _ (no_import _ (word_at Export v refl)) (passes _ (word_at Export v refl) (takes e _ export_right v λ e₁.
       export_complete w text h all (n + 1) e₁ c q))
   clause_complete n e (a_statement i x q) u = fails _ i (fails _ x (rw q ends))
 
@@ -103,46 +106,28 @@ module _ (w : Setting) (text : List ℕ) (h : Host) (all : List Token) where
       → Cleanly (items w text h all room n e ts) is []
   unfolding items
   items_complete room n e [] no_items f l = ends
-  items_complete room n e [] (an_item c d) f l = absurd (omega (arith, some_less (by_item c)))
+  items_complete room n e [] (an_item c d) f l = absurd (some_left c refl)
   items_complete zero n e (t ∷ ts) d f l = absurd (omega arith)
   items_complete (suc room) n e (t ∷ ts) (an_item {m = m} c d) f l =
-      binds _ (item_complete n e c f.0) λ e₁.
-      binds _ (items_complete room (n + length (upto (t ∷ ts) m)) e₁ m d f.1 (omega (arith, some_less (by_item c)))) λ e₂. ends
+      let y = item_complete n e c f.0 in
+      let s = shorter w text h all n e t ts _ [] y.past m y.is in
+      binds _ y λ e₁. binds _ (items_complete room (n + length (upto (t ∷ ts) m)) e₁ m d f.1 (omega arith)) λ e₂. ends
 
   -- reading ends at the end
-  abbrev AtEnd : {A : Type 0} → Out A → Type 0
-  AtEnd (stop f) = Unit {0}
-  AtEnd (got a fs e m) = m ≡ []
-
-  added_end : {A : Type 0} (fs : List Fault) (o : Out A) → AtEnd o → AtEnd (add fs o)
-  unfolding add
-  added_end fs (stop f) q = tt
-  added_end fs (got a gs e m) q = q
-
-  bound_end : {A B : Type 0} (o : Out A) (k : A → Reader B) → ((a : A) (e : ℕ) (m : List Token) → AtEnd (k a e m)) → AtEnd (bind o k)
-  unfolding bind
-  bound_end (stop f) k q = tt
-  bound_end (got a fs e m) k q = added_end fs (k a e m) (q a e m)
-
-  bound_end_of : {A B : Type 0} (o : Out A) (k : A → Reader B) → AtEnd o → ((a : A) (e : ℕ) → AtEnd (k a e [])) → AtEnd (bind o k)
-  unfolding bind
-  bound_end_of (stop f) k p q = tt
-  bound_end_of (got a fs e m) k p q = added_end fs (k a e m) (subst (λ x. AtEnd (k a e x)) (sym p) (q a e))
-
-  items_end : (room n e : ℕ) (ts : List Token) → AtEnd (items w text h all room n e ts)
+  items_end : (room n e : ℕ) (ts : List Token) {is : List Item} {fs : List Fault} {e' : ℕ} {m : List Token} → items w text h all room n e ts ≡ got is fs e' m → m ≡ []
   unfolding items stop_at
-  items_end room n e [] = refl
-  items_end zero n e (t ∷ ts) = tt
-  items_end (suc room) n e (t ∷ ts) = bound_end (item w text h all n e (t ∷ ts)) _ (λ i e₁ m.
-      bound_end_of (items w text h all room (n + length i.tokens) e₁ m) _ (items_end room (n + length i.tokens) e₁ m) (λ is e₂. refl))
-
-  at_end : {A : Type 0} {a : A} {fs : List Fault} {e : ℕ} {m : List Token} (o : Out A) → AtEnd o → o ≡ got a fs e m → m ≡ []
-  at_end {a = a} {fs = fs} {e = e} {m = m} o q p = subst (λ x. AtEnd x) p q
+  items_end room n e [] p = cc
+  items_end zero n e (t ∷ ts) p = never (sym p)
+  items_end (suc room) n e (t ∷ ts) p = bound_got (item w text h all n e (t ∷ ts)) _ p λ i _ e₁ m _ _ p₁.
+      bound_got (items w text h all room (n + length i.tokens) e₁ m) _ p₁ λ _ _ _ r _ q p₂. let z = items_end room (n + length i.tokens) e₁ m q in cc
 
 -- every reading fits some tables
+abbrev needs : Clause → ℕ
+needs c = length (specifiers_in c) + (length (names_in c) + length (attributes_in c))
+
 abbrev needed : List Item → ℕ
 needed [] = 2
-needed (i ∷ is) = length (specifiers_in i.clause) + (length (names_in i.clause) + (length (attributes_in i.clause) + needed is))
+needed (i ∷ is) = needs i.clause + needed is
 
 needed_two : (is : List Item) → 2 ≤ needed is
 needed_two [] = omega arith
@@ -151,10 +136,30 @@ needed_two (i ∷ is) = omega (arith, needed_two is)
 wide : (n : ℕ) → 2 ≤ n → Setting
 wide n h = record { names = n; attributes = n; faults = 0; two = h }
 
-all_fit : (is : List Item) (n : ℕ) (h : 2 ≤ n) → needed is ≤ n → AllFit (wide n h) is
+fit : (c : Clause) (n : ℕ) (h : 2 ≤ n) → needs c ≤ n → Fits (wide n h) c
 unfolding wide
+fit c n h l = record { specifiers = omega arith; names = omega arith; attributes = omega arith }
+
+all_fit : (is : List Item) (n : ℕ) (h : 2 ≤ n) → needed is ≤ n → AllFit (wide n h) is
 all_fit [] n h l = tt
-all_fit (i ∷ is) n h l = (record { specifiers = omega arith; names = omega arith; attributes = omega arith }, all_fit is n h (omega arith))
+all_fit (i ∷ is) n h l = (fit i.clause n h (omega arith), all_fit is n h (omega arith))
+
+-- an item takes a token at least, and what it takes stands at the front
+front : {text : List ℕ} {h : Host} {all : List Token} {n : ℕ} {ts rest : List Token} {c : Clause}
+    → ItemClause text h all n ts c rest → (ts ≡ upto ts rest ++ rest) × (1 ≤ length (upto ts rest))
+front {ts = []} c = absurd (some_left c refl)
+front {text = text} {h = h} {all = all} {n = n} {ts = t ∷ x} {rest = rest} {c = c} d =
+    let w : Setting = wide (2 + needs c) (omega arith) in
+    let y = item_complete w text h all n 0 d (fit c (2 + needs c) (omega arith) (omega arith)) in
+    let k = first_law w text h all n 0 t x _ [] y.past rest y.is in (k.taken.is, omega (arith, ap length k.begins))
+
+all_joined : {text : List ℕ} {h : Host} {all : List Token} {n : ℕ} {ts rest : List Token} {is : List Item}
+    → Items text h all n ts is rest → (joined is ++ rest ≡ ts) × NoneEmpty is
+all_joined no_items = (refl, tt)
+all_joined {ts = ts} {rest = rest} (an_item {m = m} {is = is} c d) =
+    let k = front c in
+    let p = all_joined d in
+    (append_assoc (upto ts m) (joined is) rest ∙ ap (λ x. upto ts m ++ x) p.0 ∙ sym k.0, (k.1, p.1))
 
 full : (w : Setting) (text : List ℕ) (h : Host) (ts : List Token) (is : List Item) → Module text h ts is → AllFit w is → Cleanly (read_all w text h ts) is []
 unfolding read_all
@@ -162,7 +167,7 @@ full w text h ts is d f = items_complete w text h ts (length ts) 0 0 ts d f (ome
 
 to_end : (w : Setting) (text : List ℕ) (h : Host) (ts : List Token) (is : List Item) (fs : List Fault) (e : ℕ) (m : List Token) → read_all w text h ts ≡ got is fs e m → m ≡ []
 unfolding read_all
-to_end w text h ts is fs e m p = at_end w text h ts (read_all w text h ts) (items_end w text h ts (length ts) 0 0 ts) p
+to_end w text h ts is fs e m p = items_end w text h ts (length ts) 0 0 ts p
 
 read_sound : (w : Setting) (text : List ℕ) (h : Host) (ts : List Token) (is : List Item) → Cleanly (read_all w text h ts) is [] → Module text h ts is × AllFit w is
 unfolding read_all
@@ -202,11 +207,4 @@ only text h ts is js d d' =
     let q = (full (wide n l) text h ts js d' (all_fit js n l (omega arith))).is in cc
 
 pub splits : Splits
-splits text h ts is d = let p = all_joined d in (unended (joined is) p.0, p.1)
-  where
-    unended : (xs : List Token) → xs ++ [] ≡ ts → xs ≡ ts
-    unended xs e = sym (nil xs) ∙ e
-      where
-        nil : (xs : List Token) → xs ++ [] ≡ xs
-        nil [] = refl
-        nil (x ∷ xs) = ap (λ z. x ∷ z) (nil xs)
+splits text h ts is d = let p = all_joined d in (sym (append-nil (joined is)) ∙ p.0, p.1)

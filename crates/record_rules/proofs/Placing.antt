@@ -1,6 +1,7 @@
 -- Each taken export has one row in one list.
-use Rattle.std.proofs.Common.{◌≡◌, ℕ, Bool, true, false, cond, List, [], ◌∷◌, ◌++◌, Some, None, Option, sym, refl, ap, subst, arith}
+use Rattle.std.proofs.Common.{◌≡◌, ℕ, false, List, [], ◌∷◌, ◌++◌, Some, None, Option, inl, inr, sym, refl, ap, subst}
 use Rattle.std.specs.List.{flat_map}
+use Rattle.std.proofs.lemmas.Bool.{cases_Bool}
 use Rattle.lexer.specs.declared.token.Part.{Part}
 use Rattle.pages.specs.declared.page.Page.{Page}
 use Rattle.record_rules.specs.declared.rows.NameSpan.{NameSpan}
@@ -15,31 +16,21 @@ use Rattle.record_rules.specs.declared.rows.Settled.TheVariants as settled
 use Rattle.record_rules.specs.Filing.{blank_book}
 use Rattle.record_rules.specs.Closing.{same_text, first_import, handed, by_request, by_taken, by_local, by_import, by_handed, settle, in_local, in_indirect, in_star, Lists, sorted, closing}
 use Rattle.record_rules.specs.Runs.{run, Export, from_lone, export_row, taken_exports, taken_imports, Unbound, First, to_local, to_indirect, to_star, Goes, star, sourced, nameless, unbound, kept, handed_on, Placed, done, none, local_next, indirect_next, star_next, ExportsPlaced}
+use Rattle.record_rules.proofs.Joins.{either}
 use Rattle.record_rules.proofs.Tables.{waits, imports_after, waiting_after}
-
-none_step : (text : List ℕ) (n : Part) (j : ImportRow) (js : List ImportRow) (t : Bool) → same_text text j.local.text n ≡ t
-    → (first_import text n js ≡ None → Unbound text n js)
-    → cond t (Some j) (first_import text n js) ≡ None → Unbound text n (j ∷ js)
-none_step text n j js true h rest e = absurd (let z : ◌≡◌ {A = ℕ} 0 1 = cc in omega arith)
-none_step text n j js false h rest e = (h, rest e)
 
 first_none : (text : List ℕ) (n : Part) (is : List ImportRow) → first_import text n is ≡ None → Unbound text n is
 first_none text n [] e = tt
-first_none text n (j ∷ js) e = none_step text n j js (same_text text j.local.text n) refl (first_none text n js) e
-
-some_step : (text : List ℕ) (n : Part) (i j : ImportRow) (js : List ImportRow) (t : Bool) → same_text text j.local.text n ≡ t
-    → (first_import text n js ≡ Some i → First text n js i)
-    → cond t (Some j) (first_import text n js) ≡ Some i → First text n (j ∷ js) i
-some_step text n i j js true h rest e =
-    let s : j ≡ i = cc in
-    subst (λ x. First text n (j ∷ js) x) s (record { before = []; after = js; whole = refl; others = tt; binds = h })
-some_step text n i j js false h rest e =
-    let f = rest e in
-    record { before = j ∷ f.before; after = f.after; whole = ap (λ xs. j ∷ xs) f.whole; others = (h, f.others); binds = f.binds }
+first_none text n (j ∷ js) e = either (same_text text j.local.text n) (Some j) (first_import text n js) e
+    (λ h e'. absurd cc) (λ h e'. (h, first_none text n js e'))
 
 first_some : (text : List ℕ) (n : Part) (i : ImportRow) (is : List ImportRow) → first_import text n is ≡ Some i → First text n is i
-first_some text n i [] e = absurd (let z : ◌≡◌ {A = ℕ} 0 1 = cc in omega arith)
-first_some text n i (j ∷ js) e = some_step text n i j js (same_text text j.local.text n) refl (first_some text n i js) e
+first_some text n i [] e = absurd cc
+first_some text n i (j ∷ js) e = either (same_text text j.local.text n) (Some j) (first_import text n js) e
+    (λ h e'. let s : j ≡ i = cc in
+    subst (λ x. First text n (j ∷ js) x) s (record { before = []; after = js; whole = refl; others = tt; binds = h }))
+    (λ h e'. let f = first_some text n i js e' in
+    record { before = j ∷ f.before; after = f.after; whole = ap (λ xs. j ∷ xs) f.whole; others = (h, f.others); binds = f.binds })
 
 -- where a row was settled, by the rule
 abbrev Gone : List ℕ → List ImportRow → ExportRow → Settled → Type 0
@@ -50,10 +41,10 @@ Gone text is e (settled.Star r) = Goes text is e to_star r
 module _ (text : List ℕ) (is : List ImportRow) (e : ExportRow) where
   by_taken_lem : (r : NameSpan) → e.request ≡ Some r → (x : ExportImport) → e.import_name ≡ x → Gone text is e (by_taken e x)
   by_taken_lem r q taken.AllButDefault h = star r q h
-  by_taken_lem r q taken.All h = sourced r q (λ g. let z : ◌≡◌ {A = ℕ} 0 1 = cc in omega arith)
-  by_taken_lem r q taken.Absent h = sourced r q (λ g. let z : ◌≡◌ {A = ℕ} 0 1 = cc in omega arith)
-  by_taken_lem r q (taken.Default s) h = sourced r q (λ g. let z : ◌≡◌ {A = ℕ} 0 1 = cc in omega arith)
-  by_taken_lem r q (taken.Name n) h = sourced r q (λ g. let z : ◌≡◌ {A = ℕ} 0 1 = cc in omega arith)
+  by_taken_lem r q taken.All h = sourced r q (λ g. cc)
+  by_taken_lem r q taken.Absent h = sourced r q (λ g. cc)
+  by_taken_lem r q (taken.Default s) h = sourced r q (λ g. cc)
+  by_taken_lem r q (taken.Name n) h = sourced r q (λ g. cc)
 
   by_handed_lem : (n : NameSpan) (i : ImportRow) → e.request ≡ None → e.local ≡ local.Name n → First text n.text is i
       → (o : Option ExportImport) → handed i.import_name i.phase ≡ o → Gone text is e (by_handed e i o)
@@ -66,8 +57,8 @@ module _ (text : List ℕ) (is : List ImportRow) (e : ExportRow) where
 
   by_local_lem : e.request ≡ None → (l : LocalName) → e.local ≡ l → Gone text is e (by_local text is e l)
   by_local_lem q (local.Name n) h = by_import_lem n q h (first_import text n.text is) refl
-  by_local_lem q (local.Default n) h = nameless q (λ m g. let z : ◌≡◌ {A = ℕ} 0 1 = cc in omega arith)
-  by_local_lem q local.Absent h = nameless q (λ m g. let z : ◌≡◌ {A = ℕ} 0 1 = cc in omega arith)
+  by_local_lem q (local.Default n) h = nameless q (λ m g. cc)
+  by_local_lem q local.Absent h = nameless q (λ m g. cc)
 
   by_request_lem : (o : Option NameSpan) → e.request ≡ o → Gone text is e (by_request text is e o)
   by_request_lem (Some r) q = by_taken_lem r q e.import_name refl
@@ -82,15 +73,12 @@ next text is e f (settled.Local r) g es l p = local_next e r es l f g p
 next text is e f (settled.Indirect r) g es l p = indirect_next e r es l f g p
 next text is e f (settled.Star r) g es l p = star_next e r es l f g p
 
-place_one : (text : List ℕ) (is : List ImportRow) (e : Export) (t : Bool) → from_lone e ≡ t → (es : List Export) (ws : List ExportRow)
-    → Placed text is es (sorted text is ws) → Placed text is (e ∷ es) (sorted text is (cond t [] (export_row e ∷ []) ++ ws))
-place_one text is e true f es ws p = none e es (sorted text is ws) f p
-place_one text is e false f es ws p =
-    next text is e f (settle text is (export_row e)) (by_request_lem text is (export_row e) (export_row e).request refl) es (sorted text is ws) p
-
 placed : (text : List ℕ) (is : List ImportRow) (es : List Export) → Placed text is es (sorted text is (flat_map waits es))
 placed text is [] = done
-placed text is (e ∷ es) = place_one text is e (from_lone e) refl es (flat_map waits es) (placed text is es)
+placed text is (e ∷ es) = elim (cases_Bool (from_lone e)) [
+  | inl f ↦ rw f (none e es (sorted text is (flat_map waits es)) f (placed text is es))
+  | inr f ↦ rw f (next text is e f (settle text is (export_row e)) (by_request_lem text is (export_row e) (export_row e).request refl) es (sorted text is (flat_map waits es)) (placed text is es))
+]
 
 pub exports_placed : (text : List ℕ) (ps : List Page) → ExportsPlaced text ps (closing text (run text ps blank_book))
 exports_placed text ps =

@@ -1,6 +1,10 @@
 -- The rows of a closed record are the entries of ECMA-262.
-use Rattle.std.proofs.Common.{◌≡◌, ℕ, Bool, true, false, cond, not, List, [], ◌∷◌, ◌++◌, map, Some, None, filter, Option, sym, refl, ap, ◌∙◌}
+use Rattle.std.proofs.Common.{arith, ◌≡◌, ℕ, Bool, true, false, cond, not, List, [], ◌∷◌, ◌++◌, map, None, filter, Option, inl, inr, sym, refl, ap, ◌∙◌}
 use Rattle.std.specs.List.{flat_map}
+use Rattle.std.proofs.lemmas.Bool.{cases_Bool}
+use Rattle.std.proofs.lemmas.List.Concat.{flat_map_single}
+use Rattle.std.proofs.lemmas.List.Folds.{flat_map-map}
+use Rattle.std.proofs.lemmas.Simd.{map-map}
 use Rattle.lexer.specs.declared.token.Part.{Part}
 use Rattle.lexer.specs.declared.token.Span.{Span}
 use Rattle.lexer.specs.Tokens.{part_of}
@@ -8,60 +12,45 @@ use Rattle.pages.specs.declared.rows.Name.{Name}
 use Rattle.pages.specs.declared.rows.Request.{Request}
 use Rattle.pages.specs.declared.rows.Specifier.{Specifier}
 use Rattle.pages.specs.declared.rows.Binding.{Binding}
-use Rattle.pages.specs.declared.rows.Binding.TheVariants as binding
 use Rattle.pages.specs.declared.page.Phase.{Phase}
-use Rattle.pages.specs.declared.page.Phase.TheVariants as phase
 use Rattle.pages.specs.declared.page.DefaultName.{DefaultName}
-use Rattle.pages.specs.declared.page.DefaultName.TheVariants as name
 use Rattle.pages.specs.declared.page.Page.{Page}
 use Rattle.pages.specs.Contents.{Content, blank, statement, import, export_all, export_from, braces, declaration, default}
 use Rattle.record_rules.specs.declared.rows.NameSpan.{NameSpan}
 use Rattle.record_rules.specs.declared.rows.ImportName.{ImportName}
-use Rattle.record_rules.specs.declared.rows.ImportName.TheVariants as imported
 use Rattle.record_rules.specs.declared.rows.ImportRow.{ImportRow}
 use Rattle.record_rules.specs.declared.rows.RequestRow.{RequestRow}
 use Rattle.record_rules.specs.declared.rows.Clause.TheVariants as clause
 use Rattle.record_rules.specs.declared.rows.ExportImport.{ExportImport}
-use Rattle.record_rules.specs.declared.rows.ExportImport.TheVariants as taken
 use Rattle.record_rules.specs.declared.rows.LocalName.{LocalName}
-use Rattle.record_rules.specs.declared.rows.LocalName.TheVariants as local
 use Rattle.record_rules.specs.declared.rows.ExportRow.{ExportRow}
 use Rattle.record_rules.specs.declared.rows.Settled.{Settled}
 use Rattle.record_rules.specs.declared.rows.Settled.TheVariants as settled
 use Rattle.record_rules.specs.Rows.{module_name, import_name_by, import_row, request_row, all_row, from_row, braces_row, declared_row, default_row}
-use Rattle.record_rules.specs.Filing.{blank_book, adds}
+use Rattle.record_rules.specs.Filing.{blank_book, requests_in, adds}
 use Rattle.record_rules.specs.Closing.{same_text, first_import, handed, by_request, by_taken, by_local, by_import, by_handed, settle, in_local, in_indirect, in_star, closing}
 use Rattle.record_rules.specs.Runs.{run, taken_pages, from, brace, declared, exports_of, imports_of, taken_exports, taken_imports}
 use Rattle.record_rules.specs.Ecma.{ImportEntry, ExportEntry, specifier_import, import_entries, star_entry, export_entries, module_requests, Sorted, as_local, as_indirect, as_star, import_of, re_export, sort_found, sort_bound, sort_taken, sort_request, sort, local_in, indirect_in, star_in, imported_text, import_entry_of, request_text, taken_text, local_text, export_entry_of, well_formed, clauses, ByTheStandard}
-use Rattle.record_rules.proofs.Joins.{joined_joined, joined_map, joined_same, joined_none, joined_one, map_joined}
-use Rattle.record_rules.proofs.Tables.{waits, history, imports_after, waiting_after, requests_of_lem, requests_of}
+use Rattle.record_rules.proofs.Joins.{joined_joined, joined_same, joined_none, map_joined}
+use Rattle.record_rules.proofs.Tables.{nothing, gives, given, waits, history, imports_after, waiting_after}
 
 -- over the clauses that the standard speaks of
 
-kept_step : {X Y : Type 0} (t : Bool) (f : X → List Y) (x : X) (xs : List X) (ys : List Y) → flat_map f xs ≡ ys
-    → flat_map f (cond t (x ∷ xs) xs) ≡ cond t (f x) [] ++ ys
-kept_step true f x xs ys e = ap (λ zs. f x ++ zs) e
-kept_step false f x xs ys e = e
-
 joined_kept : {X Y : Type 0} (p : X → Bool) (f : X → List Y) (xs : List X) → flat_map f (filter p xs) ≡ flat_map (λ x. cond (p x) (f x) []) xs
 joined_kept p f [] = refl
-joined_kept p f (x ∷ xs) = kept_step (p x) f x (filter p xs) (flat_map (λ y. cond (p y) (f y) []) xs) (joined_kept p f xs)
+joined_kept p f (x ∷ xs) = elim (cases_Bool (p x)) [
+  | inl h ↦ rw h (ap (λ zs. f x ++ zs) (joined_kept p f xs))
+  | inr h ↦ rw h (joined_kept p f xs)
+]
 
 map_same : {X Y Z : Type 0} (f : Y → Z) (g : X → Y) (h : X → Z) → ((x : X) → f (g x) ≡ h x) → (xs : List X) → map f (map g xs) ≡ map h xs
-map_same f g h e [] = refl
-map_same f g h e (x ∷ xs) = ap (λ y. y ∷ map f (map g xs)) (e x) ∙ ap (λ ys. h x ∷ ys) (map_same f g h e xs)
-
-nothing : {X : Type 0} (t : Bool) → ◌≡◌ {A = List X} [] (cond t [] [])
-nothing true = refl
-nothing false = refl
+map_same f g h e xs = map-map f g xs ∙ ap (λ k. map k xs) (λ i x. e x i)
 
 -- imports
 
 specifier_entry : (text : List ℕ) (s : Span) (p : Phase) (r : Request) (b : Binding) (sp : Specifier)
     → ◌≡◌ {A = ImportEntry} (record { module_request = part_of text r.text; import_name = imported_text text p (import_name_by b sp); local_name = part_of text sp.alias.text }) (specifier_import text (part_of text r.text) p b sp)
-specifier_entry text s p r binding.Default sp = refl
-specifier_entry text s p r binding.Namespace sp = refl
-specifier_entry text s p r binding.Named sp = refl
+specifier_entry text s p r b sp = grind arith
 
 import_entries_lem : (t : Bool) (text : List ℕ) (s : Span) (p : Phase) (r : Request) (ss : List Specifier)
     → map (import_entry_of text) (cond t [] (map (import_row s p (module_name r)) ss))
@@ -71,14 +60,7 @@ import_entries_lem false text s p r ss =
     map_same (import_entry_of text) (import_row s p (module_name r)) (λ sp. specifier_import text (part_of text r.text) p sp.binding sp) (λ sp. specifier_entry text s p r sp.binding sp) ss
 
 imports_by : (text : List ℕ) (c : Content) → map (import_entry_of text) (imports_of c) ≡ cond (well_formed c) (import_entries text c) []
-imports_by text blank = refl
-imports_by text (statement s) = refl
-imports_by text (import s p r ss attrs) = import_entries_lem r.lone text s p r ss
-imports_by text (export_all s r o attrs) = nothing (not r.lone)
-imports_by text (export_from s r ss attrs) = nothing (not r.lone)
-imports_by text (braces s ss) = refl
-imports_by text (declaration s d ns) = refl
-imports_by text (default s keyword body n) = refl
+imports_by text c = grind (arith, import_entries_lem, nothing)
 
 imports_are : (text : List ℕ) (ps : List Page) → map (import_entry_of text) (taken_imports text ps) ≡ flat_map (import_entries text) (clauses text ps)
 imports_are text ps =
@@ -89,57 +71,57 @@ imports_are text ps =
 -- requests
 
 request_by : (t : Bool) (text : List ℕ) (q : RequestRow) → map (λ q. part_of text q.text) (cond t [] (q ∷ [])) ≡ cond (not t) (part_of text q.text ∷ []) []
-request_by true text q = refl
-request_by false text q = refl
+request_by t text q = grind arith
 
-requests_by : (text : List ℕ) (c : Content) → map (λ q. part_of text q.text) (requests_of c) ≡ cond (well_formed c) (module_requests text c) []
-requests_by text blank = refl
-requests_by text (statement s) = refl
-requests_by text (import s p r ss attrs) = request_by r.lone text (request_row clause.Import s (module_name r))
-requests_by text (export_all s r o attrs) = request_by r.lone text (request_row clause.Export s (module_name r))
-requests_by text (export_from s r ss attrs) = request_by r.lone text (request_row clause.Export s (module_name r))
-requests_by text (braces s ss) = refl
-requests_by text (declaration s d ns) = refl
-requests_by text (default s keyword body n) = refl
+module _ (text : List ℕ) where
+  abbrev requests_of : Content → List RequestRow
+  requests_of c = gives requests_in (λ n. refl) (λ s. refl) c
 
-requests_are : (text : List ℕ) (ps : List Page) → map (λ q. part_of text q.text) (run text ps blank_book).requests ≡ flat_map (module_requests text) (clauses text ps)
-requests_are text ps =
-    ap (map (λ q. part_of text q.text))
-    (history text (λ b. b.requests) (λ b d. refl) ps blank_book ∙ joined_same (λ c. (adds text c).requests) requests_of (requests_of_lem text) (taken_pages text ps))
-    ∙ map_joined (λ q. part_of text q.text) requests_of (taken_pages text ps)
-    ∙ joined_same _ _ (requests_by text) (taken_pages text ps)
-    ∙ sym (joined_kept well_formed (module_requests text) (taken_pages text ps))
+  requests_by : (c : Content) → map (λ q. part_of text q.text) (requests_of c) ≡ cond (well_formed c) (module_requests text c) []
+  requests_by blank = refl
+  requests_by (statement s) = refl
+  requests_by (import s p r ss attrs) = rw joined_none (request_by r.lone text (request_row clause.Import s (module_name r)))
+  requests_by (export_all s r o attrs) = request_by r.lone text (request_row clause.Export s (module_name r))
+  requests_by (export_from s r ss attrs) = rw joined_none (request_by r.lone text (request_row clause.Export s (module_name r)))
+  requests_by (braces s ss) = rw joined_none refl
+  requests_by (declaration s d ns) = rw joined_none refl
+  requests_by (default s keyword body n) = refl
+
+  requests_are : (ps : List Page) → map (λ q. part_of text q.text) (run text ps blank_book).requests ≡ flat_map (module_requests text) (clauses text ps)
+  requests_are ps =
+      ap (map (λ q. part_of text q.text))
+      (history text (λ b. b.requests) (λ b d. refl) ps blank_book
+      ∙ joined_same (λ c. (adds text c).requests) requests_of (given requests_in (λ n. refl) (λ s. refl) text) (taken_pages text ps))
+      ∙ map_joined (λ q. part_of text q.text) requests_of (taken_pages text ps)
+      ∙ joined_same _ _ requests_by (taken_pages text ps)
+      ∙ sym (joined_kept well_formed (module_requests text) (taken_pages text ps))
 
 -- exports
 
 star_by : (t : Bool) (text : List ℕ) (s : Span) (r : Request) (o : Option Name)
     → map (export_entry_of text) (cond t [] (all_row s (module_name r) o ∷ []) ++ []) ≡ cond (not t) (star_entry text (part_of text r.text) o ∷ []) []
-star_by true text s r o = refl
-star_by false text s r None = refl
-star_by false text s r (Some n) = refl
+star_by t text s r o = grind arith
 
 from_by : (t : Bool) (text : List ℕ) (row : Specifier → ExportRow) (entry : Specifier → ExportEntry) → ((sp : Specifier) → export_entry_of text (row sp) ≡ entry sp) → (ss : List Specifier)
     → map (export_entry_of text) (flat_map (λ sp. cond t [] (row sp ∷ [])) ss) ≡ cond (not t) (map entry ss) []
 from_by true text row entry h ss = ap (map (export_entry_of text)) (joined_none ss)
-from_by false text row entry h ss = ap (map (export_entry_of text)) (joined_one row ss) ∙ map_same (export_entry_of text) row entry h ss
+from_by false text row entry h ss = ap (map (export_entry_of text)) (flat_map_single row ss) ∙ map_same (export_entry_of text) row entry h ss
 
 default_by : (text : List ℕ) (s keyword body : Span) (n : DefaultName)
     → map (export_entry_of text) (default_row s keyword body n ∷ []) ≡ export_entries text (default s keyword body n)
-default_by text s keyword body (name.Plain n) = refl
-default_by text s keyword body (name.Named n) = refl
-default_by text s keyword body name.Absent = refl
+default_by text s keyword body n = grind arith
 
 exports_by : (text : List ℕ) (c : Content) → map (export_entry_of text) (flat_map waits (exports_of c)) ≡ cond (well_formed c) (export_entries text c) []
 exports_by text blank = refl
 exports_by text (statement s) = refl
-exports_by text (import s p r ss attrs) = nothing (not r.lone)
+exports_by text (import s p r ss attrs) = sym (nothing (not r.lone))
 exports_by text (export_all s r o attrs) = star_by r.lone text s r o
 exports_by text (export_from s r ss attrs) =
-    ap (map (export_entry_of text)) (joined_map waits (from s r) ss) ∙ from_by r.lone text (from_row s (module_name r)) _ (λ sp. refl) ss
+    ap (map (export_entry_of text)) (flat_map-map waits (from s r) ss) ∙ from_by r.lone text (from_row s (module_name r)) _ (λ sp. refl) ss
 exports_by text (braces s ss) =
-    ap (map (export_entry_of text)) (joined_map waits (brace s) ss ∙ joined_one (braces_row s) ss) ∙ map_same (export_entry_of text) (braces_row s) _ (λ sp. refl) ss
+    ap (map (export_entry_of text)) (flat_map-map waits (brace s) ss ∙ flat_map_single (braces_row s) ss) ∙ map_same (export_entry_of text) (braces_row s) _ (λ sp. refl) ss
 exports_by text (declaration s d ns) =
-    ap (map (export_entry_of text)) (joined_map waits (declared s d) ns ∙ joined_one (declared_row s d) ns) ∙ map_same (export_entry_of text) (declared_row s d) _ (λ n. refl) ns
+    ap (map (export_entry_of text)) (flat_map-map waits (declared s d) ns ∙ flat_map_single (declared_row s d) ns) ∙ map_same (export_entry_of text) (declared_row s d) _ (λ n. refl) ns
 exports_by text (default s keyword body n) = default_by text s keyword body n
 
 exports_are : (text : List ℕ) (ps : List Page) → map (export_entry_of text) (flat_map waits (taken_exports text ps)) ≡ flat_map (export_entries text) (clauses text ps)
@@ -159,60 +141,38 @@ module _ (text : List ℕ) where
 
   one : (w : ExportRow) (i : ImportRow) (n : ImportName) (p : Phase)
       → entry_of (by_handed w i (handed n p)) ≡ re_export (export_entry_of text w) (import_entry_of text i) (imported_text text p n)
-  one w i imported.Namespace p = refl
-  one w i (imported.Name n) p = refl
-  one w i (imported.Default s) phase.Evaluation = refl
-  one w i (imported.Default s) phase.Defer = refl
-  one w i (imported.Default s) phase.Source = refl
-
-  found_step : (t : Bool) (w : ExportRow) (i : ImportRow) (o : Option ImportRow) (u : Option ImportEntry)
-      → entry_of (by_import w o) ≡ sort_found (export_entry_of text w) u
-      → entry_of (by_import w (cond t (Some i) o)) ≡ sort_found (export_entry_of text w) (cond t (Some (import_entry_of text i)) u)
-  found_step true w i o u e = one w i i.import_name i.phase
-  found_step false w i o u e = e
+  one w i n p = grind arith
 
   found : (w : ExportRow) (n : Part) (is : List ImportRow)
       → entry_of (by_import w (first_import text n is)) ≡ sort_found (export_entry_of text w) (import_of (part_of text n) (map (import_entry_of text) is))
   found w n [] = refl
-  found w n (i ∷ is) =
-      found_step (same_text text i.local.text n) w i (first_import text n is) (import_of (part_of text n) (map (import_entry_of text) is)) (found w n is)
+  found w n (i ∷ is) = elim (cases_Bool (same_text text i.local.text n)) [
+    | inl h ↦ rw h (one w i i.import_name i.phase)
+    | inr h ↦ rw h (found w n is)
+  ]
 
   by_local_lem : (w : ExportRow) (is : List ImportRow) (l : LocalName)
       → entry_of (by_local text is w l) ≡ sort_bound (map (import_entry_of text) is) (export_entry_of text w) (local_text text None l)
-  by_local_lem w is (local.Name n) = found w n.text is
-  by_local_lem w is (local.Default n) = refl
-  by_local_lem w is local.Absent = refl
+  by_local_lem w is l = grind (arith, found)
 
   by_taken_lem : (w : ExportRow) (t : ExportImport) → entry_of (by_taken w t) ≡ sort_taken (export_entry_of text w) (taken_text text t)
-  by_taken_lem w taken.Absent = refl
-  by_taken_lem w (taken.Name n) = refl
-  by_taken_lem w (taken.Default s) = refl
-  by_taken_lem w taken.All = refl
-  by_taken_lem w taken.AllButDefault = refl
+  by_taken_lem w t = grind arith
 
   by_request_lem : (w : ExportRow) (is : List ImportRow) (o : Option NameSpan) → w.request ≡ o
       → entry_of (by_request text is w o) ≡ sort_request (map (import_entry_of text) is) (export_entry_of text w) (request_text text o)
-  by_request_lem w is (Some r) q = by_taken_lem w w.import_name
-  by_request_lem w is None q =
-      by_local_lem w is w.local ∙ ap (λ o. sort_bound (map (import_entry_of text) is) (export_entry_of text w) (local_text text o w.local)) (sym q)
+  by_request_lem w is o q = grind (arith, by_taken_lem, by_local_lem)
 
   settled_sorted : (is : List ImportRow) (w : ExportRow) → entry_of (settle text is w) ≡ sort (map (import_entry_of text) is) (export_entry_of text w)
   settled_sorted is w = by_request_lem w is w.request refl
 
   local_of : (s : Settled) → map (export_entry_of text) (in_local s) ≡ local_in (entry_of s)
-  local_of (settled.Local r) = refl
-  local_of (settled.Indirect r) = refl
-  local_of (settled.Star r) = refl
+  local_of s = grind arith
 
   indirect_of : (s : Settled) → map (export_entry_of text) (in_indirect s) ≡ indirect_in (entry_of s)
-  indirect_of (settled.Local r) = refl
-  indirect_of (settled.Indirect r) = refl
-  indirect_of (settled.Star r) = refl
+  indirect_of s = grind arith
 
   star_of : (s : Settled) → map (export_entry_of text) (in_star s) ≡ star_in (entry_of s)
-  star_of (settled.Local r) = refl
-  star_of (settled.Indirect r) = refl
-  star_of (settled.Star r) = refl
+  star_of s = grind arith
 
   list_is : (put : Settled → List ExportRow) (pick : Sorted → List ExportEntry) → ((s : Settled) → map (export_entry_of text) (put s) ≡ pick (entry_of s))
       → (is : List ImportRow) (ws : List ExportRow)
@@ -220,7 +180,7 @@ module _ (text : List ℕ) where
   list_is put pick g is ws =
       map_joined (export_entry_of text) (λ w. put (settle text is w)) ws
       ∙ joined_same _ _ (λ w. g (settle text is w) ∙ ap pick (settled_sorted is w)) ws
-      ∙ sym (joined_map (λ e. pick (sort (map (import_entry_of text) is) e)) (export_entry_of text) ws)
+      ∙ sym (flat_map-map (λ e. pick (sort (map (import_entry_of text) is) e)) (export_entry_of text) ws)
 
 -- the whole
 

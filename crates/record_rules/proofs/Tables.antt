@@ -1,190 +1,138 @@
 -- What the tables hold after any pages, and what a page adds to each.
-use Rattle.std.proofs.Common.{◌≡◌, ℕ, Bool, true, false, cond, List, [], ◌∷◌, ◌++◌, map, is_ok, Some, None, Ok, Err, Option, sym, refl, ap, ◌∙◌}
+use Rattle.std.proofs.Common.{arith, ◌≡◌, ℕ, Bool, true, false, cond, List, [], ◌∷◌, ◌++◌, Option, inl, inr, sym, refl, ap, ◌∙◌}
 use Rattle.std.specs.List.{flat_map}
 use Rattle.std.proofs.lemmas.List.{append_assoc, append-nil}
+use Rattle.std.proofs.lemmas.List.Concat.{flat_map-append, flat_map_single}
+use Rattle.std.proofs.lemmas.List.Folds.{flat_map-map}
+use Rattle.std.proofs.lemmas.Bool.{cases_Bool}
 use Rattle.lexer.specs.declared.token.Span.{Span}
-use Rattle.pages.specs.declared.fault.Fault.{Fault}
-use Rattle.pages.specs.declared.fault.FaultKind.TheVariants as wrong
 use Rattle.pages.specs.declared.rows.Name.{Name}
 use Rattle.pages.specs.declared.rows.Specifier.{Specifier}
 use Rattle.pages.specs.declared.page.Page.{Page}
 use Rattle.pages.specs.Contents.{Content, content, blank, statement, import, export_all, export_from, braces, declaration, default}
-use Rattle.pages.specs.Faults.{fault_of_record}
-use Rattle.record_rules.specs.declared.rows.ImportRow.{ImportRow}
-use Rattle.record_rules.specs.declared.rows.RequestRow.{RequestRow}
+use Rattle.record_rules.specs.declared.rows.NameSpan.{NameSpan}
 use Rattle.record_rules.specs.declared.rows.Clause.TheVariants as clause
 use Rattle.record_rules.specs.declared.rows.ExportRow.{ExportRow}
-use Rattle.record_rules.specs.Rows.{module_name, import_row, request_row, all_row, from_row}
-use Rattle.record_rules.specs.Filing.{Book, blank_book, Write, an_import, a_request, a_waiting, a_name, a_skipped, reads_default, skips, braces_writes, declared_writes, name_writes, skip_writes, writes, imports_in, requests_in, waiting_in, adds, join_books, fits, is_blank, answered, filed}
+use Rattle.record_rules.specs.Rows.{module_name, import_row, request_row, all_row, from_row, braces_row, declared_row, default_row}
+use Rattle.record_rules.specs.Filing.{Book, blank_book, Write, an_import, a_request, a_waiting, a_name, a_skipped, skips, name_writes, skip_writes, writes, imports_in, waiting_in, adds, join_books, fits, is_blank}
 use Rattle.record_rules.specs.Runs.{run, taken_from, taken_pages, Export, from, brace, declared, exports_of, from_lone, export_row, imports_of, taken_exports, taken_imports}
-use Rattle.record_rules.proofs.Joins.{joined_append, joined_joined, joined_map, joined_same, joined_none, joined_one}
+use Rattle.record_rules.proofs.Joins.{joined_joined, joined_same, joined_none}
 
 -- the tables after any pages
 
-taken_or_not : (k f : Bool) (x y : Fault) (b j : Book) → cond k b (cond f j b) ≡ cond (is_ok {T = Unit {0}} (cond k (Err x) (cond f (Ok tt) (Err y)))) j b
-taken_or_not true f x y b j = refl
-taken_or_not false true x y b j = refl
-taken_or_not false false x y b j = refl
-
 module _ {X : Type 0} (text : List ℕ) (get : Book → List X) (law : (b d : Book) → get (join_books b d) ≡ get b ++ get d) where
-  step : (t : Bool) (c : Content) (ps : List Page) (b d : Book) → d ≡ cond t (join_books b (adds text c)) b
-      → get (run text ps d) ≡ get d ++ flat_map (λ q. get (adds text q)) (taken_from text ps d)
-      → get (run text ps d) ≡ get b ++ flat_map (λ q. get (adds text q)) (cond t (c ∷ taken_from text ps d) (taken_from text ps d))
-  step true c ps b d e ih =
-      ih ∙ ap (λ x. get x ++ flat_map (λ q. get (adds text q)) (taken_from text ps d)) e
-      ∙ ap (λ xs. xs ++ flat_map (λ q. get (adds text q)) (taken_from text ps d)) (law b (adds text c))
-      ∙ append_assoc (get b) (get (adds text c)) (flat_map (λ q. get (adds text q)) (taken_from text ps d))
-  step false c ps b d e ih = ih ∙ ap (λ x. get x ++ flat_map (λ q. get (adds text q)) (taken_from text ps d)) e
-
   -- a table holds what the taken pages add, in their order
   pub history : (ps : List Page) (b : Book) → get (run text ps b) ≡ get b ++ flat_map (λ q. get (adds text q)) (taken_from text ps b)
   history [] b = sym (append-nil (get b))
-  history (p ∷ ps) b =
-      step (is_ok (answered text (content p) b)) (content p) ps b (filed text (content p) b)
-      (taken_or_not (is_blank (content p)) (fits (join_books b (adds text (content p)))) (fault_of_record wrong.BlankPage) (fault_of_record wrong.Full) b (join_books b (adds text (content p))))
-      (history ps (filed text (content p) b))
+  history (p ∷ ps) b = elim (cases_Bool (is_blank (content p))) [
+    | inl h ↦ rw h (history ps b)
+    | inr h ↦ elim (cases_Bool (fits (join_books b (adds text (content p))))) [
+      | inl k ↦ rw (h, k)
+          (history ps (join_books b (adds text (content p)))
+          ∙ ap (λ xs. xs ++ flat_map (λ q. get (adds text q)) (taken_from text ps (join_books b (adds text (content p))))) (law b (adds text (content p)))
+          ∙ append_assoc (get b) (get (adds text (content p))) (flat_map (λ q. get (adds text q)) (taken_from text ps (join_books b (adds text (content p))))))
+      | inr k ↦ rw (h, k) (history ps b)
+    ]
+  ]
 
--- what a page adds to the imports, to the requests and to the waiting rows
+-- What a page adds to a table that neither names nor skipped spans go to.
 
-module _ {X : Type 0} (get : Write → List X) (no_skip : (s : Span) → get (a_skipped s) ≡ []) where
-  skip_none : (t : Bool) (s : Span) → flat_map get (map a_skipped (cond t (s ∷ []) [])) ≡ []
-  skip_none true s = append-nil (get (a_skipped s)) ∙ no_skip s
-  skip_none false s = refl
+module _ {X : Type 0} (get : Write → List X) (no_name : (n : NameSpan) → get (a_name n) ≡ []) (no_skip : (s : Span) → get (a_skipped s) ≡ []) where
+  -- rows one by one
+  each : {S : Type 0} (f : S → Write) (ss : List S) → flat_map get (flat_map (λ s. f s ∷ []) ss) ≡ flat_map (λ s. get (f s)) ss
+  each f ss = joined_joined get (λ s. f s ∷ []) ss ∙ joined_same _ _ (λ s. append-nil (get (f s))) ss
 
-  skip_nothing : (text : List ℕ) (o : Option Name) → flat_map get (skip_writes text o) ≡ []
-  skip_nothing text None = refl
-  skip_nothing text (Some n) = skip_none (reads_default text n.text) n.span
+  skip_none : (text : List ℕ) (n : Name) → flat_map get (skips text n) ≡ []
+  skip_none text n = grind (arith, no_skip)
 
-  skip_all : (text : List ℕ) (ss : List Specifier) → flat_map get (flat_map (λ sp. skips text sp.alias) ss) ≡ []
-  skip_all text ss =
-      joined_joined get (λ sp. skips text sp.alias) ss
-      ∙ joined_same _ (λ sp. []) (λ sp. skip_none (reads_default text sp.alias.text) sp.alias.span) ss
-      ∙ joined_none ss
+  -- what comes to the table of a page's rows
+  abbrev pub gives : Content → List X
+  gives blank = []
+  gives (statement s) = []
+  gives (import s phase r ss attrs) =
+      cond r.lone [] (flat_map (λ sp. get (an_import (import_row s phase (module_name r) sp))) ss ++ (get (a_request (request_row clause.Import s (module_name r))) ++ []))
+  gives (export_all s r o attrs) = cond r.lone [] (get (a_waiting (all_row s (module_name r) o)) ++ (get (a_request (request_row clause.Export s (module_name r))) ++ []))
+  gives (export_from s r ss attrs) =
+      cond r.lone [] (get (a_request (request_row clause.Export s (module_name r))) ++ flat_map (λ sp. get (a_waiting (from_row s (module_name r) sp))) ss)
+  gives (braces s ss) = flat_map (λ sp. get (a_waiting (braces_row s sp))) ss
+  gives (declaration s d ns) = flat_map (λ n. get (a_waiting (declared_row s d n))) ns
+  gives (default s keyword body n) = get (a_waiting (default_row s keyword body n)) ++ []
 
-  -- a table that one kind of row goes to, where all others give nothing
-  one_each : {S : Type 0} (f : S → Write) (g : S → X) → ((s : S) → get (f s) ≡ g s ∷ []) → (ss : List S) → flat_map get (flat_map (λ s. f s ∷ []) ss) ≡ map g ss
-  one_each f g h ss =
-      joined_joined get (λ s. f s ∷ []) ss ∙ joined_same _ (λ s. g s ∷ []) (λ s. append-nil (get (f s)) ∙ h s) ss ∙ joined_one g ss
+  import_gives : (t : Bool) (f : Specifier → Write) (q : Write) (ss : List Specifier)
+      → flat_map get (cond t [] (flat_map (λ sp. f sp ∷ []) ss ++ q ∷ [])) ≡ cond t [] (flat_map (λ sp. get (f sp)) ss ++ (get q ++ []))
+  import_gives true f q ss = refl
+  import_gives false f q ss = flat_map-append get (flat_map (λ sp. f sp ∷ []) ss) (q ∷ []) ∙ ap (λ xs. xs ++ (get q ++ [])) (each f ss)
 
-  none_each : {S : Type 0} (f : S → Write) → ((s : S) → get (f s) ≡ []) → (ss : List S) → flat_map get (flat_map (λ s. f s ∷ []) ss) ≡ []
-  none_each f h ss =
-      joined_joined get (λ s. f s ∷ []) ss ∙ joined_same _ (λ s. []) (λ s. append-nil (get (f s)) ∙ h s) ss ∙ joined_none ss
+  all_gives : (t : Bool) (text : List ℕ) (o : Option Name) (ws : List Write)
+      → flat_map get (name_writes o ++ cond t (skip_writes text o) ws) ≡ cond t [] (flat_map get ws)
+  all_gives t text o ws = grind (arith, no_name, skip_none)
 
-imports_import : (t : Bool) (s : Span) (row : Specifier → ImportRow) (q : RequestRow) (ss : List Specifier)
-    → flat_map imports_in (cond t [] (flat_map (λ sp. an_import (row sp) ∷ []) ss ++ a_request q ∷ [])) ≡ cond t [] (map row ss)
-imports_import true s row q ss = refl
-imports_import false s row q ss =
-    joined_append imports_in (flat_map (λ sp. an_import (row sp) ∷ []) ss) (a_request q ∷ [])
-    ∙ append-nil _ ∙ one_each imports_in (λ s. refl) (λ sp. an_import (row sp)) row (λ sp. refl) ss
+  from_gives : (t : Bool) (text : List ℕ) (f : Specifier → Write) (q : Write) (ss : List Specifier)
+      → flat_map get (flat_map (λ sp. a_name (record { text = sp.alias.text; span = sp.alias.span }) ∷ []) ss ++ cond t (flat_map (λ sp. skips text sp.alias) ss) (q ∷ flat_map (λ sp. f sp ∷ []) ss))
+      ≡ cond t [] (get q ++ flat_map (λ sp. get (f sp)) ss)
+  from_gives t text f q ss =
+      flat_map-append get (flat_map (λ sp. a_name (record { text = sp.alias.text; span = sp.alias.span }) ∷ []) ss) _
+      ∙ ap (λ xs. xs ++ flat_map get (cond t (flat_map (λ sp. skips text sp.alias) ss) (q ∷ flat_map (λ sp. f sp ∷ []) ss)))
+      (each (λ sp. a_name (record { text = sp.alias.text; span = sp.alias.span })) ss ∙ joined_same _ (λ sp. []) (λ sp. no_name _) ss ∙ joined_none ss)
+      ∙ go t
+    where
+      go : (t : Bool) → flat_map get (cond t (flat_map (λ sp. skips text sp.alias) ss) (q ∷ flat_map (λ sp. f sp ∷ []) ss)) ≡ cond t [] (get q ++ flat_map (λ sp. get (f sp)) ss)
+      go true = joined_joined get (λ sp. skips text sp.alias) ss ∙ joined_same _ (λ sp. []) (λ sp. skip_none text sp.alias) ss ∙ joined_none ss
+      go false = ap (λ xs. get q ++ xs) (each f ss)
 
-imports_all : (t : Bool) (text : List ℕ) (o : Option Name) (x : ExportRow) (q : RequestRow)
-    → flat_map imports_in (name_writes o ++ cond t (skip_writes text o) (a_waiting x ∷ a_request q ∷ [])) ≡ []
-imports_all true text None x q = refl
-imports_all true text (Some n) x q = skip_nothing imports_in (λ s. refl) text (Some n)
-imports_all false text None x q = refl
-imports_all false text (Some n) x q = refl
+  -- a row and a name for each element
+  pairs : {S : Type 0} (f : S → Write) (n : S → NameSpan) (ss : List S) → flat_map get (flat_map (λ s. f s ∷ a_name (n s) ∷ []) ss) ≡ flat_map (λ s. get (f s)) ss
+  pairs f n ss =
+      joined_joined get (λ s. f s ∷ a_name (n s) ∷ []) ss
+      ∙ joined_same _ (λ s. get (f s)) (λ s. ap (λ xs. get (f s) ++ (xs ++ [])) (no_name (n s)) ∙ append-nil (get (f s))) ss
 
-imports_from : (t : Bool) (text : List ℕ) (row : Specifier → ExportRow) (q : RequestRow) (ss : List Specifier)
-    → flat_map imports_in (cond t (flat_map (λ sp. skips text sp.alias) ss) (a_request q ∷ flat_map (λ sp. a_waiting (row sp) ∷ []) ss)) ≡ []
-imports_from true text row q ss = skip_all imports_in (λ s. refl) text ss
-imports_from false text row q ss = none_each imports_in (λ s. refl) (λ sp. a_waiting (row sp)) (λ sp. refl) ss
+  pub given : (text : List ℕ) (c : Content) → flat_map get (writes text c) ≡ gives c
+  given text blank = refl
+  given text (statement s) = refl
+  given text (import s phase r ss attrs) = import_gives r.lone _ _ ss
+  given text (export_all s r o attrs) = all_gives r.lone text o _
+  given text (export_from s r ss attrs) = from_gives r.lone text _ _ ss
+  given text (braces s ss) = pairs (λ sp. a_waiting (braces_row s sp)) _ ss
+  given text (declaration s d ns) = pairs (λ n. a_waiting (declared_row s d n)) _ ns
+  given text (default s keyword body n) = refl
+
+-- nothing, of a source with a lone surrogate or of another
+pub nothing : {X : Type 0} (t : Bool) → ◌≡◌ {A = List X} (cond t [] []) []
+nothing t = grind arith
 
 pub imports_of_lem : (text : List ℕ) (c : Content) → flat_map imports_in (writes text c) ≡ imports_of c
-imports_of_lem text blank = refl
-imports_of_lem text (statement s) = refl
-imports_of_lem text (import s phase r ss attrs) = imports_import r.lone s (import_row s phase (module_name r)) (request_row clause.Import s (module_name r)) ss
-imports_of_lem text (export_all s r o attrs) = imports_all r.lone text o (all_row s (module_name r) o) (request_row clause.Export s (module_name r))
-imports_of_lem text (export_from s r ss attrs) =
-    joined_append imports_in (flat_map (λ sp. a_name (record { text = sp.alias.text; span = sp.alias.span }) ∷ []) ss) _
-    ∙ ap (λ xs. xs ++ flat_map imports_in (cond r.lone (flat_map (λ sp. skips text sp.alias) ss) (a_request (request_row clause.Export s (module_name r)) ∷ flat_map (λ sp. a_waiting (from_row s (module_name r) sp) ∷ []) ss)))
-    (none_each imports_in (λ s. refl) (λ sp. a_name (record { text = sp.alias.text; span = sp.alias.span })) (λ sp. refl) ss)
-    ∙ imports_from r.lone text (from_row s (module_name r)) (request_row clause.Export s (module_name r)) ss
-imports_of_lem text (braces s ss) = joined_joined imports_in (braces_writes s) ss ∙ joined_none ss
-imports_of_lem text (declaration s d ns) = joined_joined imports_in (declared_writes s d) ns ∙ joined_none ns
-imports_of_lem text (default s keyword body n) = refl
-
--- the request of a page
-abbrev pub requests_of : Content → List RequestRow
-requests_of blank = []
-requests_of (statement s) = []
-requests_of (import s phase r ss attrs) = cond r.lone [] (request_row clause.Import s (module_name r) ∷ [])
-requests_of (export_all s r o attrs) = cond r.lone [] (request_row clause.Export s (module_name r) ∷ [])
-requests_of (export_from s r ss attrs) = cond r.lone [] (request_row clause.Export s (module_name r) ∷ [])
-requests_of (braces s ss) = []
-requests_of (declaration s d ns) = []
-requests_of (default s keyword body n) = []
-
-requests_import : (t : Bool) (row : Specifier → ImportRow) (q : RequestRow) (ss : List Specifier)
-    → flat_map requests_in (cond t [] (flat_map (λ sp. an_import (row sp) ∷ []) ss ++ a_request q ∷ [])) ≡ cond t [] (q ∷ [])
-requests_import true row q ss = refl
-requests_import false row q ss =
-    joined_append requests_in (flat_map (λ sp. an_import (row sp) ∷ []) ss) (a_request q ∷ [])
-    ∙ ap (λ xs. xs ++ q ∷ []) (none_each requests_in (λ s. refl) (λ sp. an_import (row sp)) (λ sp. refl) ss)
-
-requests_all : (t : Bool) (text : List ℕ) (o : Option Name) (x : ExportRow) (q : RequestRow)
-    → flat_map requests_in (name_writes o ++ cond t (skip_writes text o) (a_waiting x ∷ a_request q ∷ [])) ≡ cond t [] (q ∷ [])
-requests_all true text None x q = refl
-requests_all true text (Some n) x q = skip_nothing requests_in (λ s. refl) text (Some n)
-requests_all false text None x q = refl
-requests_all false text (Some n) x q = refl
-
-requests_from : (t : Bool) (text : List ℕ) (row : Specifier → ExportRow) (q : RequestRow) (ss : List Specifier)
-    → flat_map requests_in (cond t (flat_map (λ sp. skips text sp.alias) ss) (a_request q ∷ flat_map (λ sp. a_waiting (row sp) ∷ []) ss)) ≡ cond t [] (q ∷ [])
-requests_from true text row q ss = skip_all requests_in (λ s. refl) text ss
-requests_from false text row q ss = ap (λ xs. q ∷ xs) (none_each requests_in (λ s. refl) (λ sp. a_waiting (row sp)) (λ sp. refl) ss)
-
-pub requests_of_lem : (text : List ℕ) (c : Content) → flat_map requests_in (writes text c) ≡ requests_of c
-requests_of_lem text blank = refl
-requests_of_lem text (statement s) = refl
-requests_of_lem text (import s phase r ss attrs) = requests_import r.lone (import_row s phase (module_name r)) (request_row clause.Import s (module_name r)) ss
-requests_of_lem text (export_all s r o attrs) = requests_all r.lone text o (all_row s (module_name r) o) (request_row clause.Export s (module_name r))
-requests_of_lem text (export_from s r ss attrs) =
-    joined_append requests_in (flat_map (λ sp. a_name (record { text = sp.alias.text; span = sp.alias.span }) ∷ []) ss) _
-    ∙ ap (λ xs. xs ++ flat_map requests_in (cond r.lone (flat_map (λ sp. skips text sp.alias) ss) (a_request (request_row clause.Export s (module_name r)) ∷ flat_map (λ sp. a_waiting (from_row s (module_name r) sp) ∷ []) ss)))
-    (none_each requests_in (λ s. refl) (λ sp. a_name (record { text = sp.alias.text; span = sp.alias.span })) (λ sp. refl) ss)
-    ∙ requests_from r.lone text (from_row s (module_name r)) (request_row clause.Export s (module_name r)) ss
-requests_of_lem text (braces s ss) = joined_joined requests_in (braces_writes s) ss ∙ joined_none ss
-requests_of_lem text (declaration s d ns) = joined_joined requests_in (declared_writes s d) ns ∙ joined_none ns
-requests_of_lem text (default s keyword body n) = refl
+imports_of_lem text c = given imports_in (λ n. refl) (λ s. refl) text c ∙ go c
+  where
+    go : (c : Content) → gives imports_in (λ n. refl) (λ s. refl) c ≡ imports_of c
+    go blank = refl
+    go (statement s) = refl
+    go (import s phase r ss attrs) = ap (cond r.lone []) (append-nil _ ∙ flat_map_single (import_row s phase (module_name r)) ss)
+    go (export_all s r o attrs) = nothing r.lone
+    go (export_from s r ss attrs) = ap (cond r.lone []) (joined_none ss) ∙ nothing r.lone
+    go (braces s ss) = joined_none ss
+    go (declaration s d ns) = joined_none ns
+    go (default s keyword body n) = refl
 
 -- the row that waits for an export
 abbrev pub waits : Export → List ExportRow
 waits e = cond (from_lone e) [] (export_row e ∷ [])
 
-waiting_import : (t : Bool) (row : Specifier → ImportRow) (q : RequestRow) (ss : List Specifier)
-    → flat_map waiting_in (cond t [] (flat_map (λ sp. an_import (row sp) ∷ []) ss ++ a_request q ∷ [])) ≡ []
-waiting_import true row q ss = refl
-waiting_import false row q ss =
-    joined_append waiting_in (flat_map (λ sp. an_import (row sp) ∷ []) ss) (a_request q ∷ [])
-    ∙ append-nil _ ∙ none_each waiting_in (λ s. refl) (λ sp. an_import (row sp)) (λ sp. refl) ss
-
-waiting_all : (t : Bool) (text : List ℕ) (o : Option Name) (x : ExportRow) (q : RequestRow)
-    → flat_map waiting_in (name_writes o ++ cond t (skip_writes text o) (a_waiting x ∷ a_request q ∷ [])) ≡ cond t [] (x ∷ []) ++ []
-waiting_all true text None x q = refl
-waiting_all true text (Some n) x q = skip_nothing waiting_in (λ s. refl) text (Some n)
-waiting_all false text None x q = refl
-waiting_all false text (Some n) x q = refl
-
-waiting_from : (t : Bool) (text : List ℕ) (row : Specifier → ExportRow) (q : RequestRow) (ss : List Specifier)
-    → flat_map waiting_in (cond t (flat_map (λ sp. skips text sp.alias) ss) (a_request q ∷ flat_map (λ sp. a_waiting (row sp) ∷ []) ss))
-    ≡ flat_map (λ sp. cond t [] (row sp ∷ [])) ss
-waiting_from true text row q ss = skip_all waiting_in (λ s. refl) text ss ∙ sym (joined_none ss)
-waiting_from false text row q ss = joined_joined waiting_in (λ sp. a_waiting (row sp) ∷ []) ss
+from_waits : (t : Bool) (row : Specifier → ExportRow) (ss : List Specifier) → cond t [] (flat_map (λ sp. row sp ∷ []) ss) ≡ flat_map (λ sp. cond t [] (row sp ∷ [])) ss
+from_waits true row ss = sym (joined_none ss)
+from_waits false row ss = refl
 
 pub waiting_of : (text : List ℕ) (c : Content) → flat_map waiting_in (writes text c) ≡ flat_map waits (exports_of c)
-waiting_of text blank = refl
-waiting_of text (statement s) = refl
-waiting_of text (import s phase r ss attrs) = waiting_import r.lone (import_row s phase (module_name r)) (request_row clause.Import s (module_name r)) ss
-waiting_of text (export_all s r o attrs) = waiting_all r.lone text o (all_row s (module_name r) o) (request_row clause.Export s (module_name r))
-waiting_of text (export_from s r ss attrs) =
-    joined_append waiting_in (flat_map (λ sp. a_name (record { text = sp.alias.text; span = sp.alias.span }) ∷ []) ss) _
-    ∙ ap (λ xs. xs ++ flat_map waiting_in (cond r.lone (flat_map (λ sp. skips text sp.alias) ss) (a_request (request_row clause.Export s (module_name r)) ∷ flat_map (λ sp. a_waiting (from_row s (module_name r) sp) ∷ []) ss)))
-    (none_each waiting_in (λ s. refl) (λ sp. a_name (record { text = sp.alias.text; span = sp.alias.span })) (λ sp. refl) ss)
-    ∙ waiting_from r.lone text (from_row s (module_name r)) (request_row clause.Export s (module_name r)) ss
-    ∙ sym (joined_map waits (from s r) ss)
-waiting_of text (braces s ss) = joined_joined waiting_in (braces_writes s) ss ∙ sym (joined_map waits (brace s) ss)
-waiting_of text (declaration s d ns) = joined_joined waiting_in (declared_writes s d) ns ∙ sym (joined_map waits (declared s d) ns)
-waiting_of text (default s keyword body n) = refl
+waiting_of text c = given waiting_in (λ n. refl) (λ s. refl) text c ∙ go c
+  where
+    go : (c : Content) → gives waiting_in (λ n. refl) (λ s. refl) c ≡ flat_map waits (exports_of c)
+    go blank = refl
+    go (statement s) = refl
+    go (import s phase r ss attrs) = ap (λ xs. cond r.lone [] (xs ++ [])) (joined_none ss) ∙ nothing r.lone
+    go (export_all s r o attrs) = sym (append-nil _)
+    go (export_from s r ss attrs) = from_waits r.lone (from_row s (module_name r)) ss ∙ sym (flat_map-map waits (from s r) ss)
+    go (braces s ss) = sym (flat_map-map waits (brace s) ss)
+    go (declaration s d ns) = sym (flat_map-map waits (declared s d) ns)
+    go (default s keyword body n) = refl
 
 -- over any pages
 

@@ -1,20 +1,21 @@
--- Digits read pair by pair: what the bytes so far write, and the digits that are left.
-use Rattle.std.proofs.Common.{◌≡◌, ℕ, ◌-◌, ◌/◌, ◌%◌, ◌≤◌, true, eqb, List, [], ◌∷◌, ◌++◌, length, get_or, take, drop, sym, refl, ap, ◌∙◌, append_assoc, append-nil, arith, true-eqb}
-use Rattle.std.proofs.lemmas.List.{take_rest}
+-- Digits read pair by pair.
+use Rattle.std.proofs.Common.{◌≡◌, ℕ, suc, ◌*◌, ◌/◌, ◌%◌, ◌<◌, ◌≤◌, List, [], ◌∷◌, length, get_or, take, drop, refl, ap, arith, IfOk, Result, Ok, Err}
 use Rattle.replay.specs.Hex.{digit, digits}
 
-digits-++ : (xs ys : List ℕ) → digits (xs ++ ys) ≡ digits xs ++ digits ys
-digits-++ [] ys = refl
-digits-++ (x ∷ xs) ys = ap (λ l. digit (x / 16) ∷ digit (x % 16) ∷ l) (digits-++ xs ys)
+-- bytes that each write the two codes at their place write all codes, where there are no more
+pub all_written : (codes bs : List ℕ) → length codes ≤ 2 * length bs → ((k : ℕ) → k < length bs → digits (get_or bs k 0 ∷ []) ≡ take 2 (drop (k * 2) codes)) → digits bs ≡ codes
+all_written [] [] l h = refl
+all_written (x ∷ codes) [] l h = absurd (omega arith)
+all_written [] (b ∷ bs) l h = absurd (omega (arith, ap length (h 0 (omega arith))))
+all_written (x ∷ []) (b ∷ bs) l h = absurd (omega (arith, ap length (h 0 (omega arith))))
+all_written (x ∷ y ∷ codes) (b ∷ bs) l h =
+    let first : digit (b / 16) ∷ digit (b % 16) ∷ [] ≡ x ∷ y ∷ [] = h 0 (omega arith) in
+    let others : digits bs ≡ codes = all_written codes bs (omega arith) (λ k less.
+    let further : suc k * 2 ≡ suc (suc (k * 2)) = omega arith in
+    rw further at (h (suc k) (omega arith))) in
+    cc
 
--- after one byte more
-pub one_more : (codes bs more rest : List ℕ) (b : ℕ) → digits bs ++ rest ≡ codes → 2 ≤ length rest → digit (b / 16) ≡ get_or rest 0 0 → digit (b % 16) ≡ get_or rest 1 0 → more ≡ bs ++ (b ∷ []) → digits more ++ take (length rest - 2) (drop 2 rest) ≡ codes
-one_more codes bs more [] b e long h l m = absurd (omega arith)
-one_more codes bs more (x ∷ []) b e long h l m = absurd (omega arith)
-one_more codes bs more (x ∷ y ∷ rest) b e long h l m =
-    ap (λ t. digits more ++ t) (take_rest (x ∷ y ∷ rest) 2) ∙ ap (λ d. digits d ++ rest) m ∙ ap (λ d. d ++ rest) (digits-++ bs (b ∷ [])) ∙ append_assoc (digits bs) (digits (b ∷ [])) rest ∙ (λ i. digits bs ++ (h i ∷ l i ∷ rest)) ∙ e
-
--- at the end
-pub all_read : (codes bs rest : List ℕ) → digits bs ++ rest ≡ codes → eqb (length rest) 0 ≡ true → digits bs ≡ codes
-all_read codes bs [] e none = sym (append-nil (digits bs)) ∙ e
-all_read codes bs (x ∷ rest) e none = absurd (omega (arith, true-eqb _ _ (sym none)))
+-- the same of what was made, if something was
+pub all_made : {X E : Type 0} (items : X → List ℕ) (r : Result X E) (codes : List ℕ) → IfOk r (λ v. length codes ≤ 2 * length (items v)) → IfOk r (λ v. (k : ℕ) → k < length (items v) → digits (get_or (items v) k 0 ∷ []) ≡ take 2 (drop (k * 2) codes)) → IfOk r (λ v. digits (items v) ≡ codes)
+all_made items (Ok v) codes long each = all_written codes (items v) long each
+all_made items (Err e) codes long each = tt

@@ -1,3 +1,2 @@
-mod Shorter
 mod Digits
 mod Listing

@@ -1,5 +1,5 @@
 -- What the vectors call things.
-use Rattle.std.specs.Prelude.{ℕ, Bool, true, false, List, [], codes}
+use Rattle.std.specs.Prelude.{ℕ, Bool, true, false, List, [], ◌∷◌, codes}
 use Rattle.pages.specs.declared.page.PageKind.{PageKind}
 use Rattle.pages.specs.declared.page.PageKind.TheVariants as kind
 use Rattle.pages.specs.declared.page.Phase.{Phase}
@@ -22,11 +22,20 @@ page_word kind.Braces = codes "export-braces"
 page_word kind.Declaration = codes "declaration"
 page_word kind.Default = codes "default"
 
+abbrev pub page_kinds : List PageKind
+page_kinds = kind.Statement ∷ kind.Import ∷ kind.ExportAll ∷ kind.ExportFrom ∷ kind.Braces ∷ kind.Declaration ∷ kind.Default ∷ []
+
 abbrev pub phase_word : Phase → List ℕ
 phase_word phase.Evaluation = codes "none"
 phase_word phase.Defer = codes "defer"
 phase_word phase.Source = codes "source"
 
+abbrev pub phases : List Phase
+phases = phase.Evaluation ∷ phase.Defer ∷ phase.Source ∷ []
+
 abbrev pub clause_word : Clause → List ℕ
 clause_word clause.Import = codes "import"
 clause_word clause.Export = codes "export"
+
+abbrev pub clauses : List Clause
+clauses = clause.Import ∷ clause.Export ∷ []

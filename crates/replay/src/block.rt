@@ -1,31 +1,38 @@
-// A block of a vector file: a module and the answers that the library has to give.
+//! A block of a vector file: a module and the answers that the library has to give.
+ghost use Rattle.std.specs.Prelude.{◌≡◌};
+
 use crate::ends::expected_end;
-use crate::fields::Fields;
+use crate::error::BlockError;
+use crate::fields::{Fields, FromFields};
 use crate::hex::bytes_of;
 use crate::lines::Lines;
-use crate::page_lines::read_pages;
-use anyhow::anyhow;
+use crate::page_lines::read_page;
+use crate::words::layer_of;
+use lexer::token::Span;
+use pages::fault::Layer;
 use pages::page::Page;
 use std::alloc::{AllocError, Global};
+use std::fmt::Write;
+use std::iter;
 
 #[derive(Drop)]
 pub struct Block<'a> {
     pub name: &'a str,
     pub bytes: Vec<u8>,
     pub text: Vec<u8>,
-    // the lines of its token list, each with its new line, the last saying where the list ends
+    /// the lines of its token list, each with its new line, the last saying where the list ends
     pub tokens: String,
     pub outcome: Outcome,
-    // how many lines follow that are not replayed
+    /// how many lines follow that are not replayed
     pub later: usize,
 }
 
-// What a module comes to.
+/// What a module comes to.
 #[derive(Drop)]
 pub enum Outcome {
-    // reading stopped
+    /// reading stopped
     Stopped,
-    // reading stopped at a page that the record refuses
+    /// reading stopped at a page that the record refuses
     Refused,
     Read(Answer),
 }
@@ -40,30 +47,50 @@ impl Outcome {
     }
 }
 
-// What the block of a module that is read to its end has.
+/// What the block of a module that is read to its end has.
 #[derive(Drop)]
 pub struct Answer {
     pub pages: Vec<Page>,
-    // how many lines the pages have
+    /// how many lines the pages have
     pub page_lines: usize,
-    // the lines of the record, each with its new line
+    /// the lines of the record, each with its new line
     pub record: String,
 }
 
-impl<'a> Block<'a> {
-    // Takes the lines of a block, from `module` to `end`.
-    pub fn read(heap: Global, lines: &mut Lines<'a>) -> anyhow::Result<Block<'a>> {
-        let Some((name, _)) = lines.fields("module")?.split_once(' ') else {
-            return Err(anyhow!("a module has a name and a class"));
-        };
-        let bytes = bytes_of(heap, lines.fields("bytes")?)?;
-        let text = bytes_of(heap, lines.fields("text")?)?;
-        pass_js(lines, text.len())?;
-        let tokens = read_tokens(heap, lines)?;
-        let asked = pass_lines(lines, "ask");
-        let outcome = read_outcome(heap, lines)?;
-        let ruled = pass_lines(lines, "rule");
-        pass_end(lines)?;
+/// A reader of a block.
+#[derive(Drop)]
+pub struct Reader<'a> {
+    heap: Global,
+    lines: Lines<'a>,
+}
+
+impl<'a> Reader<'a> {
+    pub fn new(heap: Global, text: &'a str) -> Reader<'a> {
+        Reader {
+            heap,
+            lines: Lines::new(text),
+        }
+    }
+
+    /// The number of the line that was taken last, from 1.
+    pub fn line(&self) -> usize
+        ensures { result ≡ self.now.lines.taken }
+    {
+        self.lines.number()
+    }
+
+    /// Takes the lines of a block, from `module` to `end`.
+    pub fn block(&mut self) -> Result<Block<'a>, BlockError> {
+        let head = self.lines.fields("module")?;
+        let (name, _) = head.split_once(' ').ok_or(BlockError::NoClass)?;
+        let bytes = bytes_of(self.heap, self.lines.fields("bytes")?)?;
+        let text = bytes_of(self.heap, self.lines.fields("text")?)?;
+        self.pass_js(text.len())?;
+        let tokens = self.tokens()?;
+        let asked = self.lines.starting("ask").count();
+        let outcome = self.outcome()?;
+        let ruled = self.lines.starting("rule").count();
+        self.pass_end()?;
         let later = asked.saturating_add(outcome.later()).saturating_add(ruled);
         Ok(Block {
             name,
@@ -74,69 +101,74 @@ impl<'a> Block<'a> {
             later,
         })
     }
-}
 
-// Takes the line `js`, if there is one: how many bytes of the text are JavaScript.
-fn pass_js(lines: &mut Lines, size: usize) -> anyhow::Result<()> {
-    match lines.fields_if("js") {
-        Some(field) if field.parse::<usize>()? > size => Err(anyhow!("more JavaScript than text")),
-        _ => Ok(()),
+    // Takes the line `js`, if there is one: how many bytes of the text are JavaScript.
+    fn pass_js(&mut self, size: usize) -> Result<(), BlockError> {
+        match self.lines.fields_if("js") {
+            Some(field) if field.parse::<usize>()? > size => Err(BlockError::LongScript),
+            _ => Ok(()),
+        }
     }
-}
 
-// Takes the lines `token` and the line `ends`.
-fn read_tokens(heap: Global, lines: &mut Lines) -> anyhow::Result<String> {
-    let mut tokens = String::new(heap);
-    take_lines(&mut tokens, lines, "token")?;
-    let end = expected_end(heap, lines.fields("ends")?)?;
-    tokens.push_str(end.as_str())?;
-    Ok(tokens)
-}
-
-// Takes the line `stop`, or the lines of pages and of a record.
-fn read_outcome(heap: Global, lines: &mut Lines) -> anyhow::Result<Outcome> {
-    if let Some(line) = lines.fields_if("stop") {
-        return stop_of(line);
+    // Takes the lines `token` and the line `ends`.
+    fn tokens(&mut self) -> Result<String, BlockError> {
+        let mut tokens = String::new(self.heap);
+        self.take_lines(&mut tokens, "token")?;
+        let end = expected_end(self.heap, self.lines.fields("ends")?)?;
+        tokens.push_str(end.as_str())?;
+        Ok(tokens)
     }
-    let before = lines.number();
-    let pages = read_pages(heap, lines)?;
-    let page_lines = lines.number().saturating_sub(before);
-    let record = read_record(heap, lines)?;
-    Ok(Outcome::Read(Answer {
-        pages,
-        page_lines,
-        record,
-    }))
-}
 
-// The layer of the record among those that stop.
-const RECORD_LAYER: u32 = 4;
+    // Takes the line `stop`, or the lines of pages and of a record.
+    fn outcome(&mut self) -> Result<Outcome, BlockError> {
+        if let Some(stop) = self.lines.line_if::<Stop>("stop")? {
+            return Ok(Outcome::from(stop));
+        }
+        let before = self.line();
+        let pages = self.pages()?;
+        let page_lines = self.line().saturating_sub(before);
+        let record = self.record()?;
+        Ok(Outcome::Read(Answer {
+            pages,
+            page_lines,
+            record,
+        }))
+    }
 
-// A stop: its number, its layer, the host's code, and its place or two.
-fn stop_of(line: &str) -> anyhow::Result<Outcome> {
-    let mut fields = Fields::new(line);
-    fields.number()?;
-    let layer = fields.number()?;
-    fields.number()?;
-    fields.span()?;
-    if let Err(_) = fields.end() {
-        fields.span()?;
-        fields.end()?;
+    // Takes the lines of the pages, as many as there are. No contract says that a page takes a line, so the loop has a
+    // bound of its own.
+    fn pages(&mut self) -> Result<Vec<Page>, BlockError> {
+        let lines = &mut self.lines;
+        iter::from_fn(|| read_page(lines).transpose())
+            .take(usize::MAX)
+            .try_collect(self.heap)
     }
-    if layer == RECORD_LAYER {
-        Ok(Outcome::Refused)
-    } else {
-        Ok(Outcome::Stopped)
-    }
-}
 
-// Takes the lines of a record.
-fn read_record(heap: Global, lines: &mut Lines) -> anyhow::Result<String> {
-    let mut record = String::new(heap);
-    for word in &RECORD_WORDS {
-        take_lines(&mut record, lines, word)?;
+    // Takes the lines of a record.
+    fn record(&mut self) -> Result<String, AllocError> {
+        let mut record = String::new(self.heap);
+        for word in &RECORD_WORDS {
+            self.take_lines(&mut record, word)?;
+        }
+        Ok(record)
     }
-    Ok(record)
+
+    // Takes the lines that begin with the word, and writes them down.
+    fn take_lines(&mut self, taken: &mut String, word: &str) -> Result<(), AllocError> {
+        for fields in self.lines.starting(word) {
+            writeln!(taken, "{word} {fields}")?;
+        }
+        Ok(())
+    }
+
+    // Takes the line `end`.
+    fn pass_end(&mut self) -> Result<(), BlockError> {
+        match self.lines.next() {
+            Some("end") => Ok(()),
+            Some(_) => Err(BlockError::OtherLine),
+            None => Err(BlockError::NoEnd),
+        }
+    }
 }
 
 // The words that lines of a record begin with, in the order of the lines.
@@ -152,29 +184,27 @@ const RECORD_WORDS: [&str; 9] = [
     "closefault",
 ];
 
-// Takes the lines that begin with the word, and writes them down.
-fn take_lines(taken: &mut String, lines: &mut Lines, word: &str) -> Result<(), AllocError> {
-    while let Some(fields) = lines.fields_if(word) {
-        taken.push_str(word)?;
-        taken.push(' ')?;
-        taken.push_str(fields)?;
-        taken.push('\n')?;
+// The layer at which reading stopped, if the library has it.
+#[derive(Clone, Copy)]
+struct Stop(Option<Layer>);
+
+// A stop: its number, its layer, the host's code, and its place or two.
+impl FromFields for Stop {
+    fn from_fields(fields: &mut Fields) -> Result<Stop, BlockError> {
+        fields.skip::<u32>()?;
+        let layer = layer_of(fields.take()?);
+        fields.skip::<u32>()?;
+        fields.skip::<Span>()?;
+        fields.skip::<Option<Span>>()?;
+        Ok(Stop(layer))
     }
-    Ok(())
 }
 
-// Takes the lines that begin with the word; how many there were.
-fn pass_lines(lines: &mut Lines, word: &str) -> usize {
-    let before = lines.number();
-    while let Some(_) = lines.fields_if(word) {}
-    lines.number().saturating_sub(before)
-}
-
-// Takes the line `end`.
-fn pass_end(lines: &mut Lines) -> anyhow::Result<()> {
-    match lines.next_line() {
-        Some("end") => Ok(()),
-        Some(_) => Err(anyhow!("a block has another line here")),
-        None => Err(anyhow!("the block has no line `end`")),
+impl From<Stop> for Outcome {
+    fn from(Stop(layer): Stop) -> Outcome {
+        match layer {
+            Some(Layer::Record) => Outcome::Refused,
+            _ => Outcome::Stopped,
+        }
     }
 }

@@ -1,102 +1,149 @@
-// The fields of a line, one blank between them.
-ghost use Rattle.std.specs.Prelude.{◌≡◌, IfOk};
+//! The fields of a line, one blank between them.
+ghost use Rattle.std.specs.Prelude.{◌≡◌, ◌≢◌, Bool, MatchResult};
 ghost use Rattle.replay.specs.Words.{flag_word};
 
-use anyhow::anyhow;
+use crate::error::BlockError;
+use crate::items::Place;
 use lexer::token::{Part, Span};
 use pages::rows::Name;
+use std::iter::Peekable;
+use std::str::{FromStr, Split};
 
-#[derive(Clone, Copy)]
+/// The fields that are left.
+#[derive(Drop)]
 pub struct Fields<'a> {
-    // what is left; None after the last field
-    rest: Option<&'a str>,
+    words: Peekable<Split<'a, char>>,
 }
 
 impl<'a> Fields<'a> {
-    pub fn new(text: &'a str) -> Fields<'a> {
-        Fields { rest: Some(text) }
-    }
-
-    // Takes a field.
-    pub fn word(&mut self) -> anyhow::Result<&'a str> {
-        let Some(text) = self.rest else {
-            return Err(anyhow!("a line has too few fields"));
-        };
-        match text.split_once(' ') {
-            Some((word, rest)) => {
-                self.rest = Some(rest);
-                Ok(word)
-            }
-            None => {
-                self.rest = None;
-                Ok(text)
-            }
+    fn new(line: &'a str) -> Fields<'a> {
+        Fields {
+            words: line.split(' ').peekable(),
         }
     }
 
-    pub fn number(&mut self) -> anyhow::Result<u32> {
-        Ok(self.word()?.parse::<u32>()?)
+    /// Takes a field as it is written.
+    pub fn word(&mut self) -> Result<&'a str, BlockError> {
+        self.words.next().ok_or(BlockError::FewFields)
     }
 
-    pub fn flag(&mut self) -> anyhow::Result<bool> {
-        flag_of(self.word()?)
+    /// Takes what the next fields say.
+    pub fn take<T: FromFields>(&mut self) -> Result<T, BlockError> {
+        T::from_fields(self)
     }
 
-    pub fn span(&mut self) -> anyhow::Result<Span> {
-        span_of(self.word()?)
-    }
-
-    // Takes two fields, the place and the length of a part.
-    pub fn part(&mut self) -> anyhow::Result<Part> {
-        let place = self.number()?;
-        let len = self.number()?;
-        Ok(Part { place, len })
-    }
-
-    // Takes a part and a span, of a name that is no string.
-    pub fn plain_name(&mut self) -> anyhow::Result<Name> {
-        let text = self.part()?;
-        let span = self.span()?;
+    /// Takes a name that is no string: a part and a span.
+    pub fn plain(&mut self) -> Result<Name, BlockError> {
         Ok(Name {
-            text,
-            span,
+            text: self.take()?,
+            span: self.take()?,
             string: false,
         })
     }
 
-    // Takes a part, a span, and the flag that tells of a string.
-    pub fn name(&mut self) -> anyhow::Result<Name> {
-        let name = self.plain_name()?;
-        let string = self.flag()?;
-        Ok(Name { string, ..name })
+    /// Takes what the next fields say, and lets go of it.
+    pub fn skip<T: FromFields>(&mut self) -> Result<(), BlockError> {
+        self.take::<T>()?;
+        Ok(())
     }
 
-    // Whether every field was taken.
-    pub fn end(self) -> anyhow::Result<()> {
-        match self.rest {
-            Some(_) => Err(anyhow!("a line has too many fields")),
+    // An error where a field is left.
+    fn end(mut self) -> Result<(), BlockError> {
+        match self.words.next() {
+            Some(_) => Err(BlockError::ManyFields),
             None => Ok(()),
         }
     }
 }
 
-// A span as two numbers, a hyphen between them.
-fn span_of(field: &str) -> anyhow::Result<Span> {
-    let Some((start, end)) = field.split_once('-') else {
-        return Err(anyhow!("a span has a start and an end"));
-    };
-    Ok(Span {
-        start: start.parse::<u32>()?,
-        end: end.parse::<u32>()?,
-    })
+/// What one field says, or several.
+pub trait FromFields: Sized + Drop {
+    fn from_fields(fields: &mut Fields) -> Result<Self, BlockError>;
 }
 
-fn flag_of(field: &str) -> anyhow::Result<bool>
-    ensures { IfOk result (λ b. flag_word b ≡ field.now) }
-{
-    match field {
-        "0" => Ok(false),
-        "1" => Ok(true),
-        _ => Err(anyhow!("a flag is 0 or 1")),
+/// What all fields of a line say.
+pub fn parse_line<T: FromFields>(line: &str) -> Result<T, BlockError> {
+    let mut fields = Fields::new(line);
+    let value = fields.take()?;
+    fields.end()?;
+    Ok(value)
+}
+
+impl FromFields for u32 {
+    fn from_fields(fields: &mut Fields) -> Result<u32, BlockError> {
+        Ok(fields.word()?.parse()?)
+    }
+}
+
+impl FromFields for bool {
+    fn from_fields(fields: &mut Fields) -> Result<bool, BlockError> {
+        let Flag(flag) = fields.word()?.parse()?;
+        Ok(flag)
+    }
+}
+
+impl FromFields for Span {
+    fn from_fields(fields: &mut Fields) -> Result<Span, BlockError> {
+        let Place(span) = fields.word()?.parse()?;
+        Ok(span)
+    }
+}
+
+// What may be missing at the end of a line.
+impl<T: FromFields> FromFields for Option<T> {
+    fn from_fields(fields: &mut Fields) -> Result<Option<T>, BlockError> {
+        if fields.words.peek().is_none() {
+            return Ok(None);
+        }
+        Ok(Some(fields.take()?))
+    }
+}
+
+// The place and the length of a part.
+impl FromFields for Part {
+    fn from_fields(fields: &mut Fields) -> Result<Part, BlockError> {
+        Ok(Part {
+            place: fields.take()?,
+            len: fields.take()?,
+        })
+    }
+}
+
+// A plain name, and the flag that tells of a string.
+impl FromFields for Name {
+    fn from_fields(fields: &mut Fields) -> Result<Name, BlockError> {
+        let name = fields.plain()?;
+        Ok(Name {
+            string: fields.take()?,
+            ..name
+        })
+    }
+}
+
+/// A line that is a plain name alone.
+#[derive(Clone, Copy)]
+pub struct Plain(pub Name);
+
+impl FromFields for Plain {
+    fn from_fields(fields: &mut Fields) -> Result<Plain, BlockError> {
+        Ok(Plain(fields.plain()?))
+    }
+}
+
+// Yes as 1, no as 0.
+#[derive(Clone, Copy)]
+struct Flag(bool);
+
+impl FromStr for Flag {
+    type Err = BlockError;
+
+    ghost from_str_gives = { λ field r. MatchResult r (λ flag. flag_word flag.0 ≡ field) (λ _. (b : Bool) → flag_word b ≢ field) };
+
+    fn from_str(field: &str) -> Result<Flag, BlockError> {
+        match field {
+            "0" => Ok(Flag(false)),
+            "1" => Ok(Flag(true)),
+            _ => Err(BlockError::NoFlag),
+        }
     }
 }

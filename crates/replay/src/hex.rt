@@ -1,12 +1,12 @@
-// Bytes in hexadecimal digits.
-ghost use Rattle.std.specs.Prelude.{◌≡◌, ℕ, ◌/◌, ◌%◌, ◌<◌, IfOk, MatchOption, ◌≢◌};
+//! Bytes in hexadecimal digits.
+ghost use Rattle.std.specs.Prelude.{◌≡◌, ℕ, [], ◌∷◌, ◌<◌, IfOk, MatchOption, ◌≢◌};
 ghost use Rattle.replay.specs.Hex.{digit, digits, written};
 
-use anyhow::anyhow;
+use crate::error::BlockError;
 use std::alloc::Global;
 use std::fmt;
 
-// The value of a lower-case digit.
+/// The value of a lower-case digit. The library's `to_digit` and the kit's hex take upper case too, which no vector has.
 pub fn value(code: u8) -> Option<u8>
     ensures { MatchOption result ((v : ℕ) → v < 16 → digit v ≢ code) (λ v. (v < 16) × (digit v ≡ code)) }
 {
@@ -17,49 +17,38 @@ pub fn value(code: u8) -> Option<u8>
     }
 }
 
-// The bytes that the field writes, two digits each, or - for none.
-pub fn bytes_of(heap: Global, field: &str) -> anyhow::Result<Vec<u8>>
+/// The bytes that the field writes, two digits each, or - for none.
+pub fn bytes_of(heap: Global, field: &str) -> Result<Vec<u8>, BlockError>
     ensures { IfOk result (λ v. written v.items ≡ field.now) }
 {
-    if field == "-" {
-        return Ok(Vec::new(heap));
-    }
-    let bytes = decode(heap, field.as_bytes())?;
-    if bytes.is_empty() {
-        Err(anyhow!("a field is empty"))
-    } else {
-        Ok(bytes)
+    match field {
+        "-" => Ok(Vec::new(heap)),
+        "" => Err(BlockError::EmptyField),
+        _ => decode(heap, field.as_bytes()),
     }
 }
 
 // The bytes of the digits, two for each.
-fn decode(heap: Global, codes: &[u8]) -> anyhow::Result<Vec<u8>>
+fn decode(heap: Global, codes: &[u8]) -> Result<Vec<u8>, BlockError>
     ensures { IfOk result (λ v. digits v.items ≡ codes.now) }
 {
-    let mut bytes = Vec::new(heap);
-    let mut rest = codes;
-    while let [high, low, after @ ..] = rest {
-        bytes.push(byte_of(*high, *low)?)?;
-        rest = after;
-    }
-    if rest.is_empty() {
-        Ok(bytes)
-    } else {
-        Err(anyhow!("an odd count of hexadecimal digits"))
-    }
+    codes.chunks(2).map(byte_of).try_collect(heap)
 }
 
 // The byte of two digits.
-fn byte_of(high: u8, low: u8) -> anyhow::Result<u8>
-    ensures { IfOk result (λ b. (digit (b / 16) ≡ high) × (digit (b % 16) ≡ low)) }
+fn byte_of(codes: &[u8]) -> Result<u8, BlockError>
+    ensures { IfOk result (λ b. digits (b ∷ []) ≡ codes.now) }
 {
-    match (value(high), value(low)) {
+    let [high, low] = codes else {
+        return Err(BlockError::OddDigits);
+    };
+    match (value(*high), value(*low)) {
         (Some(h), Some(l)) => Ok(h * 16 + l),
-        _ => Err(anyhow!("a byte that is no lower-case hexadecimal digit")),
+        _ => Err(BlockError::NoDigit),
     }
 }
 
-// Bytes as a field: two digits each, or - for none.
+/// Bytes as a field: two digits each, or - for none.
 #[derive(Clone, Copy)]
 pub struct Hex<'a>(pub &'a [u8]);
 

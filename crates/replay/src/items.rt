@@ -1,22 +1,35 @@
-// Parts of a line of the record.
+//! Parts of a line of the record.
+use crate::error::BlockError;
 use crate::hex::Hex;
 use lexer::token::Span;
 use record_rules::rows::{ExportImport, ExportName, ImportName, LocalName, NameSpan};
 use std::fmt;
+use std::str::FromStr;
 
-// A span as two numbers, a hyphen between them.
+/// A span as two numbers, a hyphen between them.
 #[derive(Clone, Copy)]
 pub struct Place(pub Span);
 
 impl fmt::Display for Place {
     fn fmt<W: fmt::Write>(&self, f: &mut fmt::Formatter<W>) -> fmt::Result {
-        let start = self.0.start;
-        let end = self.0.end;
+        let Span { start, end } = self.0;
         write!(f, "{start}-{end}")
     }
 }
 
-// A name's text and where it stands.
+impl FromStr for Place {
+    type Err = BlockError;
+
+    fn from_str(field: &str) -> Result<Place, BlockError> {
+        let (start, end) = field.split_once('-').ok_or(BlockError::NoSpan)?;
+        Ok(Place(Span {
+            start: start.parse()?,
+            end: end.parse()?,
+        }))
+    }
+}
+
+/// A name's text and where it stands.
 #[derive(Clone, Copy)]
 pub struct Named<'a> {
     text: &'a [u8],
@@ -24,21 +37,18 @@ pub struct Named<'a> {
 }
 
 impl<'a> Named<'a> {
-    pub fn of(text: &'a [u8], name: NameSpan) -> Named<'a> {
+    pub fn new(text: &'a [u8], name: NameSpan) -> Named<'a> {
         Named {
             text: name.text.of(text),
             span: name.span,
         }
     }
+}
 
-    // What stands where there is no text.
-    fn at(span: Span) -> Named<'a> {
+// What stands where there is no text.
+impl From<Span> for Named<'_> {
+    fn from(span: Span) -> Self {
         Named { text: &[], span }
-    }
-
-    // What stands where there is neither text nor span.
-    fn absent() -> Named<'a> {
-        Named::at(Span { start: 0, end: 0 })
     }
 }
 
@@ -50,111 +60,98 @@ impl fmt::Display for Named<'_> {
     }
 }
 
-// A name with the word for what kind it is.
+/// A name with the word for what kind it is.
 #[derive(Clone, Copy)]
 pub struct Item<'a> {
     word: &'static str,
     name: Named<'a>,
 }
 
+impl<'a> Item<'a> {
+    fn named(word: &'static str, text: &'a [u8], name: NameSpan) -> Item<'a> {
+        Item {
+            word,
+            name: Named::new(text, name),
+        }
+    }
+
+    fn at(word: &'static str, span: Span) -> Item<'a> {
+        Item {
+            word,
+            name: Named::from(span),
+        }
+    }
+
+    // A word alone: neither a text nor a span.
+    fn bare(word: &'static str) -> Item<'a> {
+        Item::at(word, Span::default())
+    }
+}
+
 impl fmt::Display for Item<'_> {
     fn fmt<W: fmt::Write>(&self, f: &mut fmt::Formatter<W>) -> fmt::Result {
-        let word = self.word;
-        let name = self.name;
+        let Item { word, name } = *self;
         write!(f, "{word} {name}")
     }
 }
 
+/// What a row has that is written as an item, its texts those of the module.
+pub trait ToItem {
+    fn item<'a>(self, text: &'a [u8]) -> Item<'a>;
+}
+
 // What an import takes from its module.
-pub fn taken_item<'a>(text: &'a [u8], import: ImportName) -> Item<'a> {
-    match import {
-        ImportName::Name(name) => Item {
-            word: "name",
-            name: Named::of(text, name),
-        },
-        ImportName::Namespace => Item {
-            word: "namespace",
-            name: Named::absent(),
-        },
-        ImportName::Default(span) => Item {
-            word: "default",
-            name: Named::at(span),
-        },
+impl ToItem for ImportName {
+    fn item<'a>(self, text: &'a [u8]) -> Item<'a> {
+        match self {
+            ImportName::Name(name) => Item::named("name", text, name),
+            ImportName::Namespace => Item::bare("namespace"),
+            ImportName::Default(span) => Item::at("default", span),
+        }
     }
 }
 
 // The module that an export comes from.
-pub fn request_item<'a>(text: &'a [u8], request: Option<NameSpan>) -> Item<'a> {
-    match request {
-        Some(name) => Item {
-            word: "request",
-            name: Named::of(text, name),
-        },
-        None => Item {
-            word: "none",
-            name: Named::absent(),
-        },
+impl ToItem for Option<NameSpan> {
+    fn item<'a>(self, text: &'a [u8]) -> Item<'a> {
+        match self {
+            Some(name) => Item::named("request", text, name),
+            None => Item::bare("none"),
+        }
     }
 }
 
 // What an export takes from another module.
-pub fn import_item<'a>(text: &'a [u8], import: ExportImport) -> Item<'a> {
-    match import {
-        ExportImport::Absent => Item {
-            word: "none",
-            name: Named::absent(),
-        },
-        ExportImport::Name(name) => Item {
-            word: "name",
-            name: Named::of(text, name),
-        },
-        ExportImport::Default(span) => Item {
-            word: "default",
-            name: Named::at(span),
-        },
-        ExportImport::All => Item {
-            word: "all",
-            name: Named::absent(),
-        },
-        ExportImport::AllButDefault => Item {
-            word: "all-but-default",
-            name: Named::absent(),
-        },
+impl ToItem for ExportImport {
+    fn item<'a>(self, text: &'a [u8]) -> Item<'a> {
+        match self {
+            ExportImport::Absent => Item::bare("none"),
+            ExportImport::Name(name) => Item::named("name", text, name),
+            ExportImport::Default(span) => Item::at("default", span),
+            ExportImport::All => Item::bare("all"),
+            ExportImport::AllButDefault => Item::bare("all-but-default"),
+        }
     }
 }
 
 // The name that an export has to the outside.
-pub fn export_item<'a>(text: &'a [u8], exported: ExportName) -> Item<'a> {
-    match exported {
-        ExportName::Absent => Item {
-            word: "none",
-            name: Named::absent(),
-        },
-        ExportName::Name(name) => Item {
-            word: "name",
-            name: Named::of(text, name),
-        },
-        ExportName::Default(span) => Item {
-            word: "default",
-            name: Named::at(span),
-        },
+impl ToItem for ExportName {
+    fn item<'a>(self, text: &'a [u8]) -> Item<'a> {
+        match self {
+            ExportName::Absent => Item::bare("none"),
+            ExportName::Name(name) => Item::named("name", text, name),
+            ExportName::Default(span) => Item::at("default", span),
+        }
     }
 }
 
 // The name that an export has in its module.
-pub fn local_item<'a>(text: &'a [u8], local: LocalName) -> Item<'a> {
-    match local {
-        LocalName::Absent => Item {
-            word: "none",
-            name: Named::absent(),
-        },
-        LocalName::Name(name) => Item {
-            word: "name",
-            name: Named::of(text, name),
-        },
-        LocalName::Default(name) => Item {
-            word: "plain",
-            name: Named::of(text, name),
-        },
+impl ToItem for LocalName {
+    fn item<'a>(self, text: &'a [u8]) -> Item<'a> {
+        match self {
+            LocalName::Absent => Item::bare("none"),
+            LocalName::Name(name) => Item::named("name", text, name),
+            LocalName::Default(name) => Item::named("plain", text, name),
+        }
     }
 }

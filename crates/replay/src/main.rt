@@ -1,9 +1,10 @@
-// Replays vectors: modules with the answers that the library has to give, held against those that it gives.
+//! Replays vectors: modules with the answers that the library has to give, held against those that it gives.
 #![tactic(auto)]
 
 mod block;
 mod difference;
 mod ends;
+mod error;
 mod fields;
 mod hex;
 mod input;
@@ -16,9 +17,9 @@ mod tally;
 mod tokens;
 mod words;
 
+use crate::error::ReplayError;
 use crate::replay::replay_file;
 use crate::tally::Tally;
-use anyhow::anyhow;
 use std::env;
 
 const HELP: &str = "\
@@ -30,32 +31,22 @@ lines of its block.
 Says for each file how many modules agree and of what, and shows the first that do not.
 The status is 1 where one does not agree, and where a line cannot be read.";
 
-fn main(rt: HostRuntime) -> anyhow::Result<()> {
-    run(&rt)
-}
-
-fn run(rt: &HostRuntime) -> anyhow::Result<()> {
-    let names: Vec<String> = env::args(rt)?.skip(1).collect(rt.alloc())?;
+fn main(rt: HostRuntime) -> Result<(), ReplayError> {
+    let names: Vec<String> = env::args(&rt)?.skip(1).collect(rt.alloc())?;
     if names.is_empty() {
         println!(rt; "{HELP}")?;
-        return Err(anyhow!("no vector file was named"));
+        return Err(ReplayError::NoFile);
     }
-    let total = replay_all(rt, names.as_slice())?;
+    let mut total = Tally::default();
+    for name in &names {
+        let tally = replay_file(&rt, name.as_str())?;
+        println!(rt; "{name}: {tally}")?;
+        total += tally;
+    }
     println!(rt; "total: {total}")?;
     if total.differences() == 0 {
         Ok(())
     } else {
-        Err(anyhow!("the library does not agree with the vectors"))
+        Err(ReplayError::Differs)
     }
-}
-
-// Replays the files one after the other.
-fn replay_all(rt: &HostRuntime, names: &[String]) -> anyhow::Result<Tally> {
-    let mut total = Tally::new();
-    for name in names {
-        let tally = replay_file(rt, name.as_str())?;
-        println!(rt; "{name}: {tally}")?;
-        total.add(&tally);
-    }
-    Ok(total)
 }

@@ -1,258 +1,210 @@
-// The pages of a block, from their lines.
-use crate::fields::Fields;
+//! The pages of a block, from their lines.
+ghost use Rattle.std.specs.Iterator.{IsFinite};
+
+use crate::error::BlockError;
+use crate::fields::{Fields, FromFields, Plain, parse_line};
 use crate::lines::Lines;
-use crate::words::{page_fault, page_kind, phase_of};
-use anyhow::anyhow;
+use crate::words::{Word, layer_of, page_fault};
 use lexer::token::Span;
 use pages::fault::Fault;
-use pages::page::{DefaultName, Page, PageKind};
+use pages::page::{DefaultName, Page, PageKind, Phase};
 use pages::rows::{Attribute, Binding, Name, Request, Specifier};
-use pages::table::Full;
-use std::alloc::Global;
+use pages::table::Table;
 
-// Takes the lines of the pages.
-pub fn read_pages(heap: Global, lines: &mut Lines) -> anyhow::Result<Vec<Page>> {
-    let mut pages = Vec::new(heap);
-    for _ in 0..u64::MAX {
-        let Some(first) = lines.fields_if("page") else {
-            break;
-        };
-        pages.push(read_page(lines, first)?)?;
-    }
-    Ok(pages)
-}
-
-// Takes the lines of a page after its first, whose fields these are.
-fn read_page(lines: &mut Lines, first: &str) -> anyhow::Result<Page> {
-    let mut page = head_of(first)?;
+/// Takes the lines of a page, if there is a further one. Each kind has lines of its own, which the match shows.
+pub fn read_page(lines: &mut Lines) -> Result<Option<Page>, BlockError> {
+    let Some(head) = lines.line_if::<Head>("page")? else {
+        return Ok(None);
+    };
+    let mut page = Page::from(head);
     match page.kind {
         PageKind::Blank | PageKind::Statement => {}
         PageKind::Import | PageKind::ExportFrom => {
-            page.source = read_source(lines)?;
-            read_specifiers(lines, &mut page)?;
-            read_attributes(lines, &mut page)?;
+            page.source = lines.line("source")?;
+            page.specifiers = read_specifiers(lines)?;
+            page.attributes = read_attributes(lines)?;
         }
         PageKind::ExportAll => {
-            page.source = read_source(lines)?;
-            page.exported = read_exported(lines)?;
-            read_attributes(lines, &mut page)?;
+            page.source = lines.line("source")?;
+            page.exported = lines.line_if("exported")?;
+            page.attributes = read_attributes(lines)?;
         }
-        PageKind::Braces => read_specifiers(lines, &mut page)?,
+        PageKind::Braces => page.specifiers = read_specifiers(lines)?,
         PageKind::Declaration => {
-            page.body = read_span(lines, "body")?;
-            read_names(lines, &mut page)?;
+            page.body = lines.line("body")?;
+            page.names = table_of(lines.starting("declared").map(plain_name))?;
         }
         PageKind::Default => {
-            page.keyword = read_span(lines, "keyword")?;
-            page.body = read_span(lines, "body")?;
-            page.default = read_how(lines)?;
+            page.keyword = lines.line("keyword")?;
+            page.body = lines.line("body")?;
+            page.default = lines.line("how")?;
         }
     }
-    read_faults(lines, &mut page)?;
-    Ok(page)
+    page.faults = table_of(lines.starting("fault").map(parse_line))?;
+    Ok(Some(page))
 }
 
-// A page with what its first line says: its kind, its span, its first token and how many it has, its phase.
-fn head_of(first: &str) -> anyhow::Result<Page> {
-    let mut fields = Fields::new(first);
-    let mut page = Page::blank();
-    let Some(kind) = page_kind(fields.word()?) else {
-        return Err(anyhow!("no such kind of a page"));
-    };
-    page.kind = kind;
-    page.span = fields.span()?;
-    fields.number()?;
-    fields.number()?;
-    let Some(phase) = phase_of(fields.word()?) else {
-        return Err(anyhow!("no such phase"));
-    };
-    page.phase = phase;
-    fields.end()?;
-    Ok(page)
+// The table of the rows that lines say; an error where a line says none, and where the table has no room.
+fn table_of<T: Copy + Default, const N: usize, I: Iterator<Item = Result<T, BlockError>> + Drop>(
+    rows: I,
+) -> Result<Table<T, N>, BlockError>
+    requires can { I.can_next rows }
+    requires ends { IsFinite (I.remaining rows) }
+{
+    let mut table = Table::default();
+    for row in rows {
+        table.push(row?)?;
+    }
+    Ok(table)
 }
 
-fn read_source(lines: &mut Lines) -> anyhow::Result<Request> {
-    let mut fields = Fields::new(lines.fields("source")?);
-    let text = fields.part()?;
-    let span = fields.span()?;
-    let lone = fields.flag()?;
-    fields.end()?;
-    Ok(Request { text, span, lone })
+// What the first line of a page says. Of its first token and how many it has, a page keeps nothing.
+#[derive(Clone, Copy)]
+struct Head {
+    kind: PageKind,
+    span: Span,
+    phase: Phase,
 }
 
-fn read_exported(lines: &mut Lines) -> anyhow::Result<Option<Name>> {
-    let Some(line) = lines.fields_if("exported") else {
-        return Ok(None);
-    };
-    let mut fields = Fields::new(line);
-    let name = fields.name()?;
-    fields.end()?;
-    Ok(Some(name))
+impl FromFields for Head {
+    fn from_fields(fields: &mut Fields) -> Result<Head, BlockError> {
+        let kind = PageKind::named(fields.word()?).ok_or(BlockError::NoPageKind)?;
+        let span = fields.take()?;
+        fields.skip::<u32>()?;
+        fields.skip::<u32>()?;
+        let phase = Phase::named(fields.word()?).ok_or(BlockError::NoPhase)?;
+        Ok(Head { kind, span, phase })
+    }
 }
 
-// Takes a line with the word and a span.
-fn read_span(lines: &mut Lines, word: &str) -> anyhow::Result<Span> {
-    let mut fields = Fields::new(lines.fields(word)?);
-    let span = fields.span()?;
-    fields.end()?;
-    Ok(span)
+// A page of which only its first line was read.
+impl From<Head> for Page {
+    fn from(head: Head) -> Page {
+        let Head { kind, span, phase } = head;
+        Page {
+            kind,
+            span,
+            phase,
+            ..Page::blank()
+        }
+    }
 }
 
-// Takes the line that tells how a default is named.
-fn read_how(lines: &mut Lines) -> anyhow::Result<DefaultName> {
-    let mut fields = Fields::new(lines.fields("how")?);
-    let default = match fields.word()? {
-        "plain" => DefaultName::Plain(fields.plain_name()?),
-        "named" => DefaultName::Named(fields.plain_name()?),
-        "absent" => DefaultName::Absent,
-        _ => return Err(anyhow!("no such name of a default")),
-    };
-    fields.end()?;
-    Ok(default)
+impl FromFields for Request {
+    fn from_fields(fields: &mut Fields) -> Result<Request, BlockError> {
+        Ok(Request {
+            text: fields.take()?,
+            span: fields.take()?,
+            lone: fields.take()?,
+        })
+    }
 }
 
-// Takes the lines of specifiers: how many there are, then each.
-fn read_specifiers(lines: &mut Lines, page: &mut Page) -> anyhow::Result<()> {
+// How a default is named.
+impl FromFields for DefaultName {
+    fn from_fields(fields: &mut Fields) -> Result<DefaultName, BlockError> {
+        match fields.word()? {
+            "plain" => Ok(DefaultName::Plain(fields.plain()?)),
+            "named" => Ok(DefaultName::Named(fields.plain()?)),
+            "absent" => Ok(DefaultName::Absent),
+            _ => Err(BlockError::NoDefaultName),
+        }
+    }
+}
+
+// Takes the lines of specifiers: how many there are, then each. Every one of them has to be there, so this is no `take`
+// of the lines that begin so.
+fn read_specifiers(lines: &mut Lines) -> Result<Table<Specifier, 128>, BlockError> {
     let count = specifier_count(lines.fields("specifiers")?)?;
-    for _ in 0..count {
-        let specifier = specifier_of(lines.fields("specifier")?)?;
-        held(page.specifiers.push(specifier))?;
-    }
-    Ok(())
+    table_of((0..count).map(|_| lines.line("specifier")))
 }
 
-fn specifier_count(field: &str) -> anyhow::Result<u32> {
-    if field == "none" {
-        Ok(0)
-    } else {
-        Ok(field.parse::<u32>()?)
+fn specifier_count(field: &str) -> Result<u32, BlockError> {
+    match field {
+        "none" => Ok(0),
+        _ => Ok(field.parse()?),
     }
 }
 
-fn specifier_of(line: &str) -> anyhow::Result<Specifier> {
-    let mut fields = Fields::new(line);
-    let specifier = match fields.word()? {
-        "default" => whole_module(&mut fields, Binding::Default)?,
-        "namespace" => whole_module(&mut fields, Binding::Namespace)?,
-        "import" => {
-            let name = fields.name()?;
-            let alias = fields.plain_name()?;
-            Specifier {
-                span: fields.span()?,
-                binding: Binding::Named,
-                name,
-                alias,
+impl FromFields for Specifier {
+    fn from_fields(fields: &mut Fields) -> Result<Specifier, BlockError> {
+        let (binding, name, alias) = match fields.word()? {
+            "default" => {
+                let name = fields.plain()?;
+                (Binding::Default, name, name)
             }
-        }
-        "export" => {
-            let name = fields.name()?;
-            let alias = fields.name()?;
-            Specifier {
-                span: fields.span()?,
-                binding: Binding::Named,
-                name,
-                alias,
+            "namespace" => {
+                let name = fields.plain()?;
+                (Binding::Namespace, name, name)
             }
+            "import" => (Binding::Named, fields.take()?, fields.plain()?),
+            "export" => (Binding::Named, fields.take()?, fields.take()?),
+            _ => return Err(BlockError::NoSpecifier),
+        };
+        Ok(Specifier {
+            span: fields.take()?,
+            binding,
+            name,
+            alias,
+        })
+    }
+}
+
+// A name that a declaration binds.
+fn plain_name(line: &str) -> Result<Name, BlockError> {
+    let Plain(name) = parse_line(line)?;
+    Ok(name)
+}
+
+// Takes the lines of attributes, if there are any: the word, the braces and how many there are, then each, as those of
+// specifiers.
+fn read_attributes(lines: &mut Lines) -> Result<Table<Attribute, 32>, BlockError> {
+    let Some(Attributes(count)) = lines.line_if("attributes")? else {
+        return Ok(Table::default());
+    };
+    table_of((0..count).map(|_| lines.line("attribute")))
+}
+
+// How many attributes follow.
+#[derive(Clone, Copy)]
+struct Attributes(u32);
+
+impl FromFields for Attributes {
+    fn from_fields(fields: &mut Fields) -> Result<Attributes, BlockError> {
+        match fields.word()? {
+            "with" | "assert" => {}
+            _ => return Err(BlockError::NoAttributes),
         }
-        _ => return Err(anyhow!("no such specifier")),
-    };
-    fields.end()?;
-    Ok(specifier)
-}
-
-// A specifier with a local name alone.
-fn whole_module(fields: &mut Fields, binding: Binding) -> anyhow::Result<Specifier> {
-    let name = fields.plain_name()?;
-    Ok(Specifier {
-        span: fields.span()?,
-        binding,
-        name,
-        alias: name,
-    })
-}
-
-// Takes the lines of the names that a declaration binds.
-fn read_names(lines: &mut Lines, page: &mut Page) -> anyhow::Result<()> {
-    while let Some(line) = lines.fields_if("declared") {
-        let mut fields = Fields::new(line);
-        let name = fields.plain_name()?;
-        fields.end()?;
-        held(page.names.push(name))?;
+        fields.skip::<Span>()?;
+        Ok(Attributes(fields.take()?))
     }
-    Ok(())
-}
-
-// Takes the lines of attributes, if there are any: the word, the braces and how many there are, then each.
-fn read_attributes(lines: &mut Lines, page: &mut Page) -> anyhow::Result<()> {
-    let Some(line) = lines.fields_if("attributes") else {
-        return Ok(());
-    };
-    for _ in 0..attribute_count(line)? {
-        let attribute = attribute_of(lines.fields("attribute")?)?;
-        held(page.attributes.push(attribute))?;
-    }
-    Ok(())
-}
-
-fn attribute_count(line: &str) -> anyhow::Result<u32> {
-    let mut fields = Fields::new(line);
-    match fields.word()? {
-        "with" | "assert" => {}
-        _ => return Err(anyhow!("attributes follow `with` or `assert`")),
-    }
-    fields.span()?;
-    let count = fields.number()?;
-    fields.end()?;
-    Ok(count)
 }
 
 // A key and a value, which is a string, with the flag of a lone surrogate and the span of both.
-fn attribute_of(line: &str) -> anyhow::Result<Attribute> {
-    let mut fields = Fields::new(line);
-    let key = fields.name()?;
-    let value = fields.plain_name()?;
-    fields.flag()?;
-    fields.span()?;
-    fields.end()?;
-    Ok(Attribute {
-        key,
-        value: Name {
+impl FromFields for Attribute {
+    fn from_fields(fields: &mut Fields) -> Result<Attribute, BlockError> {
+        let key = fields.take()?;
+        let value = Name {
             string: true,
-            ..value
-        },
-    })
-}
-
-// Takes the lines of a page's faults.
-fn read_faults(lines: &mut Lines, page: &mut Page) -> anyhow::Result<()> {
-    while let Some(line) = lines.fields_if("fault") {
-        held(page.faults.push(fault_of(line)?))?;
+            ..fields.plain()?
+        };
+        fields.skip::<bool>()?;
+        fields.skip::<Span>()?;
+        Ok(Attribute { key, value })
     }
-    Ok(())
 }
 
 // A fault: its number, its layer, and its place or two.
-fn fault_of(line: &str) -> anyhow::Result<Fault> {
-    let mut fields = Fields::new(line);
-    let Some(kind) = page_fault(fields.number()?) else {
-        return Err(anyhow!("no such fault of a page"));
-    };
-    if fields.number()? != u32::from(kind.layer().number()) {
-        return Err(anyhow!("a fault is of another layer"));
-    }
-    let first = fields.span()?;
-    if let Ok(()) = fields.end() {
-        return Ok(Fault::at(kind, first));
-    }
-    let second = fields.span()?;
-    fields.end()?;
-    Ok(Fault::with(kind, first, second))
-}
-
-// An error where a table of a page had no room.
-fn held(pushed: Result<(), Full>) -> anyhow::Result<()> {
-    match pushed {
-        Ok(()) => Ok(()),
-        Err(Full) => Err(anyhow!("a page has more rows than it holds")),
+impl FromFields for Fault {
+    fn from_fields(fields: &mut Fields) -> Result<Fault, BlockError> {
+        let kind = page_fault(fields.take()?).ok_or(BlockError::NoPageFault)?;
+        if layer_of(fields.take()?) != Some(kind.layer()) {
+            return Err(BlockError::OtherLayer);
+        }
+        let first = fields.take()?;
+        match fields.take()? {
+            Some(second) => Ok(Fault::with(kind, first, second)),
+            None => Ok(Fault::at(kind, first)),
+        }
     }
 }

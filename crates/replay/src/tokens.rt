@@ -1,4 +1,4 @@
-// The token list of a module, from both token sources, as the lines of a vector.
+//! The token list of a module, from both token sources, as the lines of a vector.
 ghost use Rattle.std.specs.Prelude.{◌≡◌, length, IfOk, string_bytes};
 ghost use Rattle.lexer.specs.Entries.{listed, ending_of, row_entries};
 ghost use Rattle.lexer.specs.Records.{entries};
@@ -8,14 +8,15 @@ use crate::ends::found_end;
 use lexer::entry::Ending;
 use lexer::file::TokenFile;
 use lexer::placed::Placed;
+use lexer::records::{ESCAPED, LONE, NEW_LINE};
 use lexer::source::Source;
 use lexer::table::TokenTable;
 use lexer::token::{Part, Span, Token};
-use lexer::walk::walk;
+use lexer::walk::{Tokens, walk};
 use std::alloc::{AllocError, Global};
 
-// The lines of the token list that a token file means.
-pub fn file_lines<'a>(heap: Global, bytes: &'a [u8], text: &'a [u8]) -> anyhow::Result<String>
+/// The lines of the token list that a token file means. The bytes and the text go to it as they came.
+pub fn file_lines(heap: Global, bytes: &[u8], text: &[u8]) -> Result<String, AllocError>
     ensures { IfOk result (λ s. string_bytes s ≡ list_lines (listed (entries (length text.now) bytes.now)) (ending_of (entries (length text.now) bytes.now))) }
 {
     let file = TokenFile::new(bytes, text);
@@ -23,12 +24,8 @@ pub fn file_lines<'a>(heap: Global, bytes: &'a [u8], text: &'a [u8]) -> anyhow::
     list_lines(heap, &file, ending)
 }
 
-// The lines of the same list from a table whose rows are the file's tokens. None where the list ends with a bad record.
-pub fn table_lines<'a>(
-    heap: Global,
-    bytes: &'a [u8],
-    text: &'a [u8],
-) -> anyhow::Result<Option<String>> {
+/// The lines of the same list from a table whose rows are the file's tokens. None where the list ends with a bad record.
+pub fn table_lines(heap: Global, bytes: &[u8], text: &[u8]) -> Result<Option<String>, AllocError> {
     let file = TokenFile::new(bytes, text);
     let mut rows = rows_of(heap, &file)?;
     match file.ending() {
@@ -39,8 +36,9 @@ pub fn table_lines<'a>(
     Ok(Some(row_lines(heap, rows.as_slice(), text)?))
 }
 
-// The lines of the token list that the rows mean.
-fn row_lines<'a>(heap: Global, rows: &'a [Token], text: &'a [u8]) -> anyhow::Result<String>
+// The lines of the token list that the rows mean. As those of a file: where its list ends is asked of each kind of
+// source itself, as no function of every source.
+fn row_lines(heap: Global, rows: &[Token], text: &[u8]) -> Result<String, AllocError>
     ensures { IfOk result (λ s. string_bytes s ≡ list_lines (listed (row_entries (length text.now) rows.now)) (ending_of (row_entries (length text.now) rows.now))) }
 {
     let table = TokenTable::new(rows, text);
@@ -50,16 +48,12 @@ fn row_lines<'a>(heap: Global, rows: &'a [Token], text: &'a [u8]) -> anyhow::Res
 
 // The tokens of a source without their places.
 fn rows_of<S: Source>(heap: Global, source: &S) -> Result<Vec<Token>, AllocError> {
-    let tokens = walk(heap, source)?;
-    let mut rows = Vec::new(heap);
-    for placed in tokens.as_slice() {
-        rows.push(placed.token)?;
-    }
-    Ok(rows)
+    Tokens::of(source).map(|placed| placed.token).collect(heap)
 }
 
 // A line for each token of a source, and one for where its list ends.
-fn list_lines<S: Source>(heap: Global, source: &S, ending: Ending) -> anyhow::Result<String>
+#[tactic(auto, using(crate::proofs::Listing::placed_lines_lem))]
+fn list_lines<S: Source>(heap: Global, source: &S, ending: Ending) -> Result<String, AllocError>
     ensures { IfOk result (λ s. string_bytes s ≡ list_lines (S.Source.tokens source.now) ending) }
 {
     let tokens = walk(heap, source)?;
@@ -85,19 +79,18 @@ fn token_lines(heap: Global, tokens: &[Placed]) -> Result<String, AllocError>
 fn token_line(heap: Global, token: Token) -> Result<String, AllocError>
     ensures { IfOk result (λ s. string_bytes s ≡ token_line token) }
 {
-    let kind = token.kind.number();
+    let kind = u8::from(token.kind);
     let Span { start, end } = token.span;
     let Part { place, len } = token.text;
     let marks = marks_of(token);
     format!(in heap; "token {kind} {start}-{end} {place} {len} {marks}\n")
 }
 
-// The marks as a number: 1 new line, 2 escaped, 4 lone.
+// The marks as a number, by the bits of a record.
 fn marks_of(token: Token) -> u8
     ensures { result ≡ marks token }
 {
-    let line = if token.new_line { 1 } else { 0 };
-    let escaped = if token.escaped { 2 } else { 0 };
-    let lone = if token.lone { 4 } else { 0 };
-    line + escaped + lone
+    NEW_LINE * u8::from(token.new_line)
+        + ESCAPED * u8::from(token.escaped)
+        + LONE * u8::from(token.lone)
 }

@@ -1,10 +1,11 @@
-// Takes token files apart: every token, and where and why each list of tokens ends.
+//! Takes token files apart: every token, and where and why each list of tokens ends.
 #![tactic(auto)]
 
+mod error;
 mod show;
 
+use crate::error::ShowError;
 use crate::show::show;
-use anyhow::anyhow;
 use std::env;
 
 const HELP: &str = "\
@@ -15,21 +16,19 @@ number, place, start, end, marks (n new line, e escaped, l lone), kind, text.
 Then it says how many tokens there are, and whether the list ends at an Eof, at the
 end of the bytes, or at a bad record, which rule that breaks, and at which byte.";
 
-fn main(rt: HostRuntime) -> anyhow::Result<()> {
-    run(&rt)
-}
-
-fn run(rt: &HostRuntime) -> anyhow::Result<()> {
-    let words: Vec<String> = env::args(rt)?.skip(1).collect(rt.alloc())?;
+// The command line is read as it stands: what clap makes of one has another help text, and other texts where a file is
+// missing.
+fn main(rt: HostRuntime) -> Result<(), ShowError> {
+    let words: Vec<String> = env::args(&rt)?.skip(1).collect(rt.alloc())?;
     if words.is_empty() {
         println!(rt; "{HELP}")?;
-        return Err(anyhow!("no token file was named"));
+        return Err(ShowError::NoTokens);
     }
-    for pair in words.as_slice().chunks(2) {
+    for pair in words.chunks(2) {
         match pair {
             [only] if only.as_str() == "--help" => println!(rt; "{HELP}")?,
-            [tokens, text] => show(rt, tokens.as_str(), text.as_str())?,
-            _ => return Err(anyhow!("a token file was named without its text file")),
+            [tokens, text] => show(&rt, tokens.as_str(), text.as_str())?,
+            _ => return Err(ShowError::NoText),
         }
     }
     Ok(())

@@ -5,6 +5,6 @@ use Rattle.replay.proofs.tokens.token_line.Goals as goal
 
 pub returns : goal.returns
 returns c =
-    let same : line_of c.number-kind.result c.args.token.span c.args.token.text c.marks_of-marks.result ≡ token_line c.args.token =
-    λ i. line_of (c.number-kind.ensures.value i) c.args.token.span c.args.token.text (c.marks_of-marks.ensures i) in
+    let same : line_of c.from-kind.result c.args.token.span c.args.token.text c.marks_of-marks.result ≡ token_line c.args.token =
+    λ i. line_of (c.from-kind.ensures.value i) c.args.token.span c.args.token.text (c.marks_of-marks.ensures i) in
     made_as (λ s. string_bytes s) c.format.result _ _ c.format.ensures.ok (simp append_assoc same)
