@@ -4,7 +4,6 @@ ghost use Rattle.std.specs.Iterator.{IsFinite};
 use crate::build::{braces, default, export_from, import, module, name, plain, span};
 use anyhow::Result;
 use module_record::record::ModuleRecord;
-use pages::fault::Fault;
 use pages::page::{DefaultName, Page, Phase};
 use pages::rows::Request;
 use pages::table::Full;
@@ -55,10 +54,12 @@ fn show_limit<I: Iterator<Item = Result<Page, Full>> + Drop>(
     requires ends { IsFinite (I.remaining pages) }
 {
     let mut record = ModuleRecord::open();
-    let filed: Vec<Result<(), Fault>> = pages
-        .map(|page| -> Result<_> { Ok(record.file(b"ab", &page?)) })
-        .try_collect(rt.alloc())?;
-    let refused = filed.iter().filter(|filed| filed.is_err()).count();
+    let mut refused = 0usize;
+    for page in pages {
+        if record.file(b"ab", &page?).is_err() {
+            refused = refused.saturating_add(1);
+        }
+    }
     let imports = record.imports().len();
     let requests = record.requests().len();
     let waiting = record.waiting().len();

@@ -4,39 +4,40 @@ use crate::build::{
     renamed, span,
 };
 use crate::show::show;
-use anyhow::Result;
 use pages::page::{DefaultName, Page, Phase};
 use pages::rows::{Binding, Request};
-use std::alloc::Global;
+use pages::table::Full;
+use std::io;
 
-// A module: its text, and its pages.
+// A module: its text, and its pages. An array of them, since what is shown here wants no heap.
 #[derive(Drop)]
-struct Sample {
+struct Sample<const N: usize> {
     text: &'static str,
-    pages: Vec<Page>,
+    pages: [Page; N],
 }
 
-pub fn show_samples(rt: &HostRuntime) -> Result<()> {
-    let heap = rt.alloc();
-    let samples = [
-        handed_on(heap)?,
-        every_list(heap)?,
-        kept_local(heap)?,
-        repeated(heap)?,
-        several_defaults(heap)?,
-        damaged(heap)?,
-        refused(heap)?,
-    ];
-    for sample in &samples {
-        show(rt, sample.text, sample.pages.as_slice())?;
+impl<const N: usize> Sample<N> {
+    fn show(&self, rt: &HostRuntime) -> io::Result<()> {
+        show(rt, self.text, &self.pages)
     }
+}
+
+/// Each is made when those before it are shown.
+pub fn show_samples(rt: &HostRuntime) -> anyhow::Result<()> {
+    handed_on()?.show(rt)?;
+    every_list()?.show(rt)?;
+    kept_local()?.show(rt)?;
+    repeated()?.show(rt)?;
+    several_defaults()?.show(rt)?;
+    damaged()?.show(rt)?;
+    refused()?.show(rt)?;
     Ok(())
 }
 
 // An import that is exported again is handed on.
-fn handed_on(heap: Global) -> Result<Sample> {
+fn handed_on() -> Result<Sample<2>, Full> {
     let text = "import delta from \"smile\"; export { delta };";
-    let pages = vec![in heap;
+    let pages = [
         import(
             span(0, 26),
             Phase::Evaluation,
@@ -44,28 +45,28 @@ fn handed_on(heap: Global) -> Result<Sample> {
             &[bound(Binding::Default, name(7, 12))],
         )?,
         braces(span(27, 44), &[plain(name(36, 41))])?,
-    ]?;
+    ];
     Ok(Sample { text, pages })
 }
 
-fn every_list(heap: Global) -> Result<Sample> {
+fn every_list() -> Result<Sample<5>, Full> {
     let text =
         "export { x as y }; export * from \"m\"; export * as n from \"m\"; export { a } from \"k\"; export const c = 1;";
-    let pages = vec![in heap;
+    let pages = [
         braces(span(0, 18), &[renamed(name(9, 10), name(14, 15))])?,
         export_all(span(19, 37), module(33, 36), None),
         export_all(span(38, 61), module(57, 60), Some(name(50, 51))),
         export_from(span(62, 84), module(80, 83), &[plain(name(71, 72))])?,
         declaration(span(85, 104), span(92, 104), &[name(98, 99)])?,
-    ]?;
+    ];
     Ok(Sample { text, pages })
 }
 
 // A namespace, a module's source and a default of an imported value stay local.
-fn kept_local(heap: Global) -> Result<Sample> {
+fn kept_local() -> Result<Sample<5>, Full> {
     let text =
         "import * as n from \"m\"; import source s from \"w\"; import d from \"m\"; export { n, s }; export default d;";
-    let pages = vec![in heap;
+    let pages = [
         import(
             span(0, 23),
             Phase::Evaluation,
@@ -91,25 +92,25 @@ fn kept_local(heap: Global) -> Result<Sample> {
             span(101, 102),
             DefaultName::Plain(name(101, 102)),
         ),
-    ]?;
+    ];
     Ok(Sample { text, pages })
 }
 
 // A name is exported three times.
-fn repeated(heap: Global) -> Result<Sample> {
+fn repeated() -> Result<Sample<3>, Full> {
     let text = "export {a}; export {a}; export {a};";
-    let pages = vec![in heap;
+    let pages = [
         braces(span(0, 11), &[plain(name(8, 9))])?,
         braces(span(12, 23), &[plain(name(20, 21))])?,
         braces(span(24, 35), &[plain(name(32, 33))])?,
-    ]?;
+    ];
     Ok(Sample { text, pages })
 }
 
 // Several defaults, of which one is of a source with a lone surrogate, which has no row.
-fn several_defaults(heap: Global) -> Result<Sample> {
+fn several_defaults() -> Result<Sample<3>, Full> {
     let text = "export {a as default}; export default 1; export {default} from \"?\";";
-    let pages = vec![in heap;
+    let pages = [
         braces(span(0, 22), &[renamed(name(8, 9), name(13, 20))])?,
         default(
             span(23, 40),
@@ -125,26 +126,24 @@ fn several_defaults(heap: Global) -> Result<Sample> {
             },
             &[plain(name(49, 56))],
         )?,
-    ]?;
+    ];
     Ok(Sample { text, pages })
 }
 
 // Names that stand outside the text read as empty, so that they are the same.
-fn damaged(heap: Global) -> Result<Sample> {
+fn damaged() -> Result<Sample<1>, Full> {
     let text = "export { a, b };";
-    let pages = vec![in heap;
-        braces(
-            span(0, 16),
-            &[plain(name(900, 901)), plain(name(4294967290, 4294967295))],
-        )?,
-    ]?;
+    let pages = [braces(
+        span(0, 16),
+        &[plain(name(900, 901)), plain(name(4294967290, 4294967295))],
+    )?];
     Ok(Sample { text, pages })
 }
 
 // A blank page, a page that fills a table, and one more row than it holds.
-fn refused(heap: Global) -> Result<Sample> {
+fn refused() -> Result<Sample<4>, Full> {
     let text = "import a from \"m\"; import b from \"m\";";
-    let pages = vec![in heap;
+    let pages = [
         Page::blank(),
         import(
             span(0, 18),
@@ -159,6 +158,6 @@ fn refused(heap: Global) -> Result<Sample> {
             &[bound(Binding::Default, name(26, 27))],
         )?,
         braces(span(0, 0), &[])?,
-    ]?;
+    ];
     Ok(Sample { text, pages })
 }

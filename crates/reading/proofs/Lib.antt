@@ -5,6 +5,7 @@ mod Specifiers
 mod Forms
 mod Attrs
 mod OfExports
+mod Fronts
 mod Local
 mod OfReaders
 pub mod OfLaws

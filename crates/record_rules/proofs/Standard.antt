@@ -32,7 +32,7 @@ use Rattle.record_rules.specs.Closing.{same_text, first_import, handed, by_reque
 use Rattle.record_rules.specs.Runs.{run, taken_pages, from, brace, declared, exports_of, imports_of, taken_exports, taken_imports}
 use Rattle.record_rules.specs.Ecma.{ImportEntry, ExportEntry, specifier_import, import_entries, star_entry, export_entries, module_requests, Sorted, as_local, as_indirect, as_star, import_of, re_export, sort_found, sort_bound, sort_taken, sort_request, sort, local_in, indirect_in, star_in, imported_text, import_entry_of, request_text, taken_text, local_text, export_entry_of, well_formed, clauses, ByTheStandard}
 use Rattle.record_rules.proofs.Joins.{joined_joined, joined_same, joined_none, map_joined}
-use Rattle.record_rules.proofs.Tables.{nothing, gives, given, waits, history, imports_after, waiting_after}
+use Rattle.record_rules.proofs.Tables.{nothing, waits, history, imports_after, waiting_after, requests_of, requests_of_lem}
 
 -- over the clauses that the standard speaks of
 
@@ -73,28 +73,23 @@ imports_are text ps =
 request_by : (t : Bool) (text : List ℕ) (q : RequestRow) → map (λ q. part_of text q.text) (cond t [] (q ∷ [])) ≡ cond (not t) (part_of text q.text ∷ []) []
 request_by t text q = grind arith
 
-module _ (text : List ℕ) where
-  abbrev requests_of : Content → List RequestRow
-  requests_of c = gives requests_in (λ n. refl) (λ s. refl) c
+requests_by : (text : List ℕ) (c : Content) → map (λ q. part_of text q.text) (requests_of c) ≡ cond (well_formed c) (module_requests text c) []
+requests_by text blank = refl
+requests_by text (statement s) = refl
+requests_by text (import s p r ss attrs) = request_by r.lone text (request_row clause.Import s (module_name r))
+requests_by text (export_all s r o attrs) = request_by r.lone text (request_row clause.Export s (module_name r))
+requests_by text (export_from s r ss attrs) = request_by r.lone text (request_row clause.Export s (module_name r))
+requests_by text (braces s ss) = refl
+requests_by text (declaration s d ns) = refl
+requests_by text (default s keyword body n) = refl
 
-  requests_by : (c : Content) → map (λ q. part_of text q.text) (requests_of c) ≡ cond (well_formed c) (module_requests text c) []
-  requests_by blank = refl
-  requests_by (statement s) = refl
-  requests_by (import s p r ss attrs) = rw joined_none (request_by r.lone text (request_row clause.Import s (module_name r)))
-  requests_by (export_all s r o attrs) = request_by r.lone text (request_row clause.Export s (module_name r))
-  requests_by (export_from s r ss attrs) = rw joined_none (request_by r.lone text (request_row clause.Export s (module_name r)))
-  requests_by (braces s ss) = rw joined_none refl
-  requests_by (declaration s d ns) = rw joined_none refl
-  requests_by (default s keyword body n) = refl
-
-  requests_are : (ps : List Page) → map (λ q. part_of text q.text) (run text ps blank_book).requests ≡ flat_map (module_requests text) (clauses text ps)
-  requests_are ps =
-      ap (map (λ q. part_of text q.text))
-      (history text (λ b. b.requests) (λ b d. refl) ps blank_book
-      ∙ joined_same (λ c. (adds text c).requests) requests_of (given requests_in (λ n. refl) (λ s. refl) text) (taken_pages text ps))
-      ∙ map_joined (λ q. part_of text q.text) requests_of (taken_pages text ps)
-      ∙ joined_same _ _ requests_by (taken_pages text ps)
-      ∙ sym (joined_kept well_formed (module_requests text) (taken_pages text ps))
+requests_are : (text : List ℕ) (ps : List Page) → map (λ q. part_of text q.text) (run text ps blank_book).requests ≡ flat_map (module_requests text) (clauses text ps)
+requests_are text ps =
+    ap (map (λ q. part_of text q.text))
+    (history text (λ b. b.requests) (λ b d. refl) ps blank_book ∙ joined_same (λ c. (adds text c).requests) requests_of (requests_of_lem text) (taken_pages text ps))
+    ∙ map_joined (λ q. part_of text q.text) requests_of (taken_pages text ps)
+    ∙ joined_same _ _ (requests_by text) (taken_pages text ps)
+    ∙ sym (joined_kept well_formed (module_requests text) (taken_pages text ps))
 
 -- exports
 

@@ -11,10 +11,11 @@ use Rattle.pages.specs.declared.rows.Specifier.{Specifier}
 use Rattle.pages.specs.declared.page.Page.{Page}
 use Rattle.pages.specs.Contents.{Content, content, blank, statement, import, export_all, export_from, braces, declaration, default}
 use Rattle.record_rules.specs.declared.rows.NameSpan.{NameSpan}
+use Rattle.record_rules.specs.declared.rows.RequestRow.{RequestRow}
 use Rattle.record_rules.specs.declared.rows.Clause.TheVariants as clause
 use Rattle.record_rules.specs.declared.rows.ExportRow.{ExportRow}
 use Rattle.record_rules.specs.Rows.{module_name, import_row, request_row, all_row, from_row, braces_row, declared_row, default_row}
-use Rattle.record_rules.specs.Filing.{Book, blank_book, Write, an_import, a_request, a_waiting, a_name, a_skipped, skips, name_writes, skip_writes, writes, imports_in, waiting_in, adds, join_books, fits, is_blank}
+use Rattle.record_rules.specs.Filing.{Book, blank_book, Write, an_import, a_request, a_waiting, a_name, a_skipped, skips, name_writes, skip_writes, writes, imports_in, requests_in, waiting_in, adds, join_books, fits, is_blank}
 use Rattle.record_rules.specs.Runs.{run, taken_from, taken_pages, Export, from, brace, declared, exports_of, from_lone, export_row, imports_of, taken_exports, taken_imports}
 use Rattle.record_rules.proofs.Joins.{joined_joined, joined_same, joined_none}
 
@@ -109,6 +110,30 @@ imports_of_lem text c = given imports_in (λ n. refl) (λ s. refl) text c ∙ go
     go (import s phase r ss attrs) = ap (cond r.lone []) (append-nil _ ∙ flat_map_single (import_row s phase (module_name r)) ss)
     go (export_all s r o attrs) = nothing r.lone
     go (export_from s r ss attrs) = ap (cond r.lone []) (joined_none ss) ∙ nothing r.lone
+    go (braces s ss) = joined_none ss
+    go (declaration s d ns) = joined_none ns
+    go (default s keyword body n) = refl
+
+-- the request of a page
+abbrev pub requests_of : Content → List RequestRow
+requests_of blank = []
+requests_of (statement s) = []
+requests_of (import s phase r ss attrs) = cond r.lone [] (request_row clause.Import s (module_name r) ∷ [])
+requests_of (export_all s r o attrs) = cond r.lone [] (request_row clause.Export s (module_name r) ∷ [])
+requests_of (export_from s r ss attrs) = cond r.lone [] (request_row clause.Export s (module_name r) ∷ [])
+requests_of (braces s ss) = []
+requests_of (declaration s d ns) = []
+requests_of (default s keyword body n) = []
+
+pub requests_of_lem : (text : List ℕ) (c : Content) → flat_map requests_in (writes text c) ≡ requests_of c
+requests_of_lem text c = given requests_in (λ n. refl) (λ s. refl) text c ∙ go c
+  where
+    go : (c : Content) → gives requests_in (λ n. refl) (λ s. refl) c ≡ requests_of c
+    go blank = refl
+    go (statement s) = refl
+    go (import s phase r ss attrs) = ap (λ xs. cond r.lone [] (xs ++ request_row clause.Import s (module_name r) ∷ [])) (joined_none ss)
+    go (export_all s r o attrs) = refl
+    go (export_from s r ss attrs) = ap (λ xs. cond r.lone [] (request_row clause.Export s (module_name r) ∷ xs)) (joined_none ss)
     go (braces s ss) = joined_none ss
     go (declaration s d ns) = joined_none ns
     go (default s keyword body n) = refl

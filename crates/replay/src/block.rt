@@ -13,7 +13,6 @@ use pages::fault::Layer;
 use pages::page::Page;
 use std::alloc::{AllocError, Global};
 use std::fmt::Write;
-use std::iter;
 
 #[derive(Drop)]
 pub struct Block<'a> {
@@ -135,13 +134,17 @@ impl<'a> Reader<'a> {
         }))
     }
 
-    // Takes the lines of the pages, as many as there are. No contract says that a page takes a line, so the loop has a
-    // bound of its own.
+    // Takes the lines of the pages, as many as there are. A loop and no chain, whose steps would each move a page of
+    // 11 KB on. No contract says that a page takes a line, so the loop has a bound of its own.
     fn pages(&mut self) -> Result<Vec<Page>, BlockError> {
-        let lines = &mut self.lines;
-        iter::from_fn(|| read_page(lines).transpose())
-            .take(usize::MAX)
-            .try_collect(self.heap)
+        let mut pages = Vec::new(self.heap);
+        for _ in 0..u64::MAX {
+            let Some(head) = self.lines.line_if("page")? else {
+                break;
+            };
+            pages.push(read_page(&mut self.lines, head)?)?;
+        }
+        Ok(pages)
     }
 
     // Takes the lines of a record.

@@ -1,12 +1,12 @@
 //! What stops a replay.
 use pages::table::Full;
 use std::alloc::AllocError;
+use std::io;
 use std::num::ParseIntError;
-use std::{fmt, io};
 use thiserror::Error;
 
 /// Why the program stops. A reason is a part of the message, as no error of the kit has a source to print.
-#[derive(Drop, Error)]
+#[derive(Debug, Drop, Error)]
 pub enum ReplayError {
     #[error("no vector file was named")]
     NoFile,
@@ -31,14 +31,6 @@ pub enum ReplayError {
     Output(#[from] io::Error),
     #[error(transparent)]
     Memory(#[from(alloc)] AllocError),
-}
-
-// `main` prints an error by `Debug`: this one as its message, with the reason however long the name is.
-// Each program has such an impl of its own, as no crate stands below both.
-impl fmt::Debug for ReplayError {
-    fn fmt<W: fmt::Write>(&self, f: &mut fmt::Formatter<W>) -> fmt::Result {
-        write!(f, "{self}")
-    }
 }
 
 /// Why a block cannot be replayed.

@@ -6,25 +6,33 @@ use crate::error::BlockError;
 use crate::items::Place;
 use lexer::token::{Part, Span};
 use pages::rows::Name;
-use std::iter::Peekable;
-use std::str::{FromStr, Split};
+use std::str::FromStr;
 
-/// The fields that are left.
-#[derive(Drop)]
+/// The fields that are left. A text, and no iterator over it: of those that split a text none is Copy.
+#[derive(Clone, Copy)]
 pub struct Fields<'a> {
-    words: Peekable<Split<'a, char>>,
+    // None after the last field
+    rest: Option<&'a str>,
 }
 
 impl<'a> Fields<'a> {
     fn new(line: &'a str) -> Fields<'a> {
-        Fields {
-            words: line.split(' ').peekable(),
-        }
+        Fields { rest: Some(line) }
     }
 
     /// Takes a field as it is written.
     pub fn word(&mut self) -> Result<&'a str, BlockError> {
-        self.words.next().ok_or(BlockError::FewFields)
+        let text = self.rest.ok_or(BlockError::FewFields)?;
+        match text.split_once(' ') {
+            Some((word, rest)) => {
+                self.rest = Some(rest);
+                Ok(word)
+            }
+            None => {
+                self.rest = None;
+                Ok(text)
+            }
+        }
     }
 
     /// Takes what the next fields say.
@@ -48,8 +56,8 @@ impl<'a> Fields<'a> {
     }
 
     // An error where a field is left.
-    fn end(mut self) -> Result<(), BlockError> {
-        match self.words.next() {
+    fn end(self) -> Result<(), BlockError> {
+        match self.rest {
             Some(_) => Err(BlockError::ManyFields),
             None => Ok(()),
         }
@@ -92,7 +100,7 @@ impl FromFields for Span {
 // What may be missing at the end of a line.
 impl<T: FromFields> FromFields for Option<T> {
     fn from_fields(fields: &mut Fields) -> Result<Option<T>, BlockError> {
-        if fields.words.peek().is_none() {
+        if fields.rest.is_none() {
             return Ok(None);
         }
         Ok(Some(fields.take()?))

@@ -31,11 +31,12 @@ lines of its block.
 Says for each file how many modules agree and of what, and shows the first that do not.
 The status is 1 where one does not agree, and where a line cannot be read.";
 
-fn main(rt: HostRuntime) -> Result<(), ReplayError> {
+// The error that ends the program is printed as `anyhow` keeps it: the first 120 bytes of its message.
+fn main(rt: HostRuntime) -> anyhow::Result<()> {
     let names: Vec<String> = env::args(&rt)?.skip(1).collect(rt.alloc())?;
     if names.is_empty() {
         println!(rt; "{HELP}")?;
-        return Err(ReplayError::NoFile);
+        return Err(ReplayError::NoFile.into());
     }
     let mut total = Tally::default();
     for name in &names {
@@ -47,6 +48,6 @@ fn main(rt: HostRuntime) -> Result<(), ReplayError> {
     if total.differences() == 0 {
         Ok(())
     } else {
-        Err(ReplayError::Differs)
+        Err(ReplayError::Differs.into())
     }
 }

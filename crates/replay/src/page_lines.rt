@@ -11,28 +11,28 @@ use pages::page::{DefaultName, Page, PageKind, Phase};
 use pages::rows::{Attribute, Binding, Name, Request, Specifier};
 use pages::table::Table;
 
-/// Takes the lines of a page, if there is a further one. Each kind has lines of its own, which the match shows.
-pub fn read_page(lines: &mut Lines) -> Result<Option<Page>, BlockError> {
-    let Some(head) = lines.line_if::<Head>("page")? else {
-        return Ok(None);
-    };
-    let mut page = Page::from(head);
+/// Takes the lines of a page after its first. Each kind has lines of its own, which the match shows.
+pub fn read_page(lines: &mut Lines, head: Head) -> Result<Page, BlockError> {
+    let mut page = Page::blank();
+    page.kind = head.kind;
+    page.span = head.span;
+    page.phase = head.phase;
     match page.kind {
         PageKind::Blank | PageKind::Statement => {}
         PageKind::Import | PageKind::ExportFrom => {
             page.source = lines.line("source")?;
-            page.specifiers = read_specifiers(lines)?;
-            page.attributes = read_attributes(lines)?;
+            read_specifiers(lines, &mut page.specifiers)?;
+            read_attributes(lines, &mut page.attributes)?;
         }
         PageKind::ExportAll => {
             page.source = lines.line("source")?;
             page.exported = lines.line_if("exported")?;
-            page.attributes = read_attributes(lines)?;
+            read_attributes(lines, &mut page.attributes)?;
         }
-        PageKind::Braces => page.specifiers = read_specifiers(lines)?,
+        PageKind::Braces => read_specifiers(lines, &mut page.specifiers)?,
         PageKind::Declaration => {
             page.body = lines.line("body")?;
-            page.names = table_of(lines.starting("declared").map(plain_name))?;
+            fill(&mut page.names, lines.starting("declared").map(plain_name))?;
         }
         PageKind::Default => {
             page.keyword = lines.line("keyword")?;
@@ -40,27 +40,28 @@ pub fn read_page(lines: &mut Lines) -> Result<Option<Page>, BlockError> {
             page.default = lines.line("how")?;
         }
     }
-    page.faults = table_of(lines.starting("fault").map(parse_line))?;
-    Ok(Some(page))
+    fill(&mut page.faults, lines.starting("fault").map(parse_line))?;
+    Ok(page)
 }
 
-// The table of the rows that lines say; an error where a line says none, and where the table has no room.
-fn table_of<T: Copy + Default, const N: usize, I: Iterator<Item = Result<T, BlockError>> + Drop>(
+// Adds the rows that lines say to a table of the page, where it stands: a table made anew would be written twice. An
+// error where a line says none, and where the table has no room.
+fn fill<T: Copy, const N: usize, I: Iterator<Item = Result<T, BlockError>> + Drop>(
+    table: &mut Table<T, N>,
     rows: I,
-) -> Result<Table<T, N>, BlockError>
+) -> Result<(), BlockError>
     requires can { I.can_next rows }
     requires ends { IsFinite (I.remaining rows) }
 {
-    let mut table = Table::default();
     for row in rows {
         table.push(row?)?;
     }
-    Ok(table)
+    Ok(())
 }
 
-// What the first line of a page says. Of its first token and how many it has, a page keeps nothing.
+/// What the first line of a page says. Of its first token and how many it has, a page keeps nothing.
 #[derive(Clone, Copy)]
-struct Head {
+pub struct Head {
     kind: PageKind,
     span: Span,
     phase: Phase,
@@ -74,19 +75,6 @@ impl FromFields for Head {
         fields.skip::<u32>()?;
         let phase = Phase::named(fields.word()?).ok_or(BlockError::NoPhase)?;
         Ok(Head { kind, span, phase })
-    }
-}
-
-// A page of which only its first line was read.
-impl From<Head> for Page {
-    fn from(head: Head) -> Page {
-        let Head { kind, span, phase } = head;
-        Page {
-            kind,
-            span,
-            phase,
-            ..Page::blank()
-        }
     }
 }
 
@@ -114,9 +102,12 @@ impl FromFields for DefaultName {
 
 // Takes the lines of specifiers: how many there are, then each. Every one of them has to be there, so this is no `take`
 // of the lines that begin so.
-fn read_specifiers(lines: &mut Lines) -> Result<Table<Specifier, 128>, BlockError> {
+fn read_specifiers(
+    lines: &mut Lines,
+    specifiers: &mut Table<Specifier, 128>,
+) -> Result<(), BlockError> {
     let count = specifier_count(lines.fields("specifiers")?)?;
-    table_of((0..count).map(|_| lines.line("specifier")))
+    fill(specifiers, (0..count).map(|_| lines.line("specifier")))
 }
 
 fn specifier_count(field: &str) -> Result<u32, BlockError> {
@@ -158,11 +149,14 @@ fn plain_name(line: &str) -> Result<Name, BlockError> {
 
 // Takes the lines of attributes, if there are any: the word, the braces and how many there are, then each, as those of
 // specifiers.
-fn read_attributes(lines: &mut Lines) -> Result<Table<Attribute, 32>, BlockError> {
+fn read_attributes(
+    lines: &mut Lines,
+    attributes: &mut Table<Attribute, 32>,
+) -> Result<(), BlockError> {
     let Some(Attributes(count)) = lines.line_if("attributes")? else {
-        return Ok(Table::default());
+        return Ok(());
     };
-    table_of((0..count).map(|_| lines.line("attribute")))
+    fill(attributes, (0..count).map(|_| lines.line("attribute")))
 }
 
 // How many attributes follow.
