@@ -4,38 +4,24 @@ use crate::build::{
     renamed, span,
 };
 use crate::show::show;
+use anyhow::Result;
 use pages::page::{DefaultName, Page, Phase};
 use pages::rows::{Binding, Request};
-use pages::table::Full;
-use std::io;
 
-// A module: its text, and its pages. An array of them, since what is shown here wants no heap.
-#[derive(Drop)]
-struct Sample<const N: usize> {
-    text: &'static str,
-    pages: [Page; N],
-}
-
-impl<const N: usize> Sample<N> {
-    fn show(&self, rt: &HostRuntime) -> io::Result<()> {
-        show(rt, self.text, &self.pages)
-    }
-}
-
-/// Each is made when those before it are shown.
-pub fn show_samples(rt: &HostRuntime) -> anyhow::Result<()> {
-    handed_on()?.show(rt)?;
-    every_list()?.show(rt)?;
-    kept_local()?.show(rt)?;
-    repeated()?.show(rt)?;
-    several_defaults()?.show(rt)?;
-    damaged()?.show(rt)?;
-    refused()?.show(rt)?;
-    Ok(())
+/// Each sample is made when those before it are shown, in an array of its pages: what is shown here wants no heap, and
+/// the stack has one sample at a time.
+pub fn show_samples(rt: &HostRuntime) -> Result<()> {
+    handed_on(rt)?;
+    every_list(rt)?;
+    kept_local(rt)?;
+    repeated(rt)?;
+    several_defaults(rt)?;
+    damaged(rt)?;
+    refused(rt)
 }
 
 // An import that is exported again is handed on.
-fn handed_on() -> Result<Sample<2>, Full> {
+fn handed_on(rt: &HostRuntime) -> Result<()> {
     let text = "import delta from \"smile\"; export { delta };";
     let pages = [
         import(
@@ -46,10 +32,10 @@ fn handed_on() -> Result<Sample<2>, Full> {
         )?,
         braces(span(27, 44), &[plain(name(36, 41))])?,
     ];
-    Ok(Sample { text, pages })
+    Ok(show(rt, text, &pages)?)
 }
 
-fn every_list() -> Result<Sample<5>, Full> {
+fn every_list(rt: &HostRuntime) -> Result<()> {
     let text =
         "export { x as y }; export * from \"m\"; export * as n from \"m\"; export { a } from \"k\"; export const c = 1;";
     let pages = [
@@ -59,11 +45,11 @@ fn every_list() -> Result<Sample<5>, Full> {
         export_from(span(62, 84), module(80, 83), &[plain(name(71, 72))])?,
         declaration(span(85, 104), span(92, 104), &[name(98, 99)])?,
     ];
-    Ok(Sample { text, pages })
+    Ok(show(rt, text, &pages)?)
 }
 
 // A namespace, a module's source and a default of an imported value stay local.
-fn kept_local() -> Result<Sample<5>, Full> {
+fn kept_local(rt: &HostRuntime) -> Result<()> {
     let text =
         "import * as n from \"m\"; import source s from \"w\"; import d from \"m\"; export { n, s }; export default d;";
     let pages = [
@@ -93,22 +79,22 @@ fn kept_local() -> Result<Sample<5>, Full> {
             DefaultName::Plain(name(101, 102)),
         ),
     ];
-    Ok(Sample { text, pages })
+    Ok(show(rt, text, &pages)?)
 }
 
 // A name is exported three times.
-fn repeated() -> Result<Sample<3>, Full> {
+fn repeated(rt: &HostRuntime) -> Result<()> {
     let text = "export {a}; export {a}; export {a};";
     let pages = [
         braces(span(0, 11), &[plain(name(8, 9))])?,
         braces(span(12, 23), &[plain(name(20, 21))])?,
         braces(span(24, 35), &[plain(name(32, 33))])?,
     ];
-    Ok(Sample { text, pages })
+    Ok(show(rt, text, &pages)?)
 }
 
 // Several defaults, of which one is of a source with a lone surrogate, which has no row.
-fn several_defaults() -> Result<Sample<3>, Full> {
+fn several_defaults(rt: &HostRuntime) -> Result<()> {
     let text = "export {a as default}; export default 1; export {default} from \"?\";";
     let pages = [
         braces(span(0, 22), &[renamed(name(8, 9), name(13, 20))])?,
@@ -127,21 +113,21 @@ fn several_defaults() -> Result<Sample<3>, Full> {
             &[plain(name(49, 56))],
         )?,
     ];
-    Ok(Sample { text, pages })
+    Ok(show(rt, text, &pages)?)
 }
 
 // Names that stand outside the text read as empty, so that they are the same.
-fn damaged() -> Result<Sample<1>, Full> {
+fn damaged(rt: &HostRuntime) -> Result<()> {
     let text = "export { a, b };";
     let pages = [braces(
         span(0, 16),
         &[plain(name(900, 901)), plain(name(4294967290, 4294967295))],
     )?];
-    Ok(Sample { text, pages })
+    Ok(show(rt, text, &pages)?)
 }
 
 // A blank page, a page that fills a table, and one more row than it holds.
-fn refused() -> Result<Sample<4>, Full> {
+fn refused(rt: &HostRuntime) -> Result<()> {
     let text = "import a from \"m\"; import b from \"m\";";
     let pages = [
         Page::blank(),
@@ -159,5 +145,5 @@ fn refused() -> Result<Sample<4>, Full> {
         )?,
         braces(span(0, 0), &[])?,
     ];
-    Ok(Sample { text, pages })
+    Ok(show(rt, text, &pages)?)
 }
