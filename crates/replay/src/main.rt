@@ -31,7 +31,8 @@ lines of its block.
 Says for each file how many modules agree and of what, and shows the first that do not.
 The status is 1 where one does not agree, and where a line cannot be read.";
 
-// The error that ends the program is printed as `anyhow` keeps it: the first 120 bytes of its message.
+// The error that ends the program is printed as `anyhow` keeps it: a message of more than 120 bytes is cut, and ends
+// with three dots.
 fn main(rt: HostRuntime) -> anyhow::Result<()> {
     let names: Vec<String> = env::args(&rt)?.skip(1).collect(rt.alloc())?;
     if names.is_empty() {

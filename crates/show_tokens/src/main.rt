@@ -16,7 +16,8 @@ number, place, start, end, marks (n new line, e escaped, l lone), kind, text.
 Then it says how many tokens there are, and whether the list ends at an Eof, at the
 end of the bytes, or at a bad record, which rule that breaks, and at which byte.";
 
-// The error that ends the program is printed as `anyhow` keeps it: the first 120 bytes of its message.
+// The error that ends the program is printed as `anyhow` keeps it: a message of more than 120 bytes is cut, and ends
+// with three dots.
 // The command line is read as it stands: what clap makes of one has another help text, and other texts where a file is
 // missing.
 fn main(rt: HostRuntime) -> anyhow::Result<()> {
